@@ -1,0 +1,9 @@
+pub mod Clocks
+pub mod Bounds
+pub mod Readings
+pub mod Paths
+pub mod Bits
+pub mod Sets
+pub mod Capping
+pub mod Behaviours
+pub mod Worked

@@ -1,0 +1,5 @@
+pub mod Published
+pub mod Words
+pub mod Tables
+pub mod Stepping
+pub mod Examples
