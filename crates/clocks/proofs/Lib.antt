@@ -1,0 +1,6 @@
+pub mod Every
+pub mod Names
+pub mod Cells
+pub mod Firsts
+pub mod Lawfulness
+pub mod Held

@@ -1,0 +1,31 @@
+-- A name that is copied letter by letter. Assumes nothing.
+use Prim.Native.Nat.{ℕ, _+_, _<_, _≤_}
+use native.Mathlib.Omega.{arith}
+use mathlib.Core.Bool.{Bool, true, false, _&&_, cond}
+use mathlib.Core.List.{List, [], _∷_, _++_}
+use mathlib.Core.Path.{_≡_, sym, ap, subst, _∙_}
+use lib.ListN.{length, getD, set, take}
+use Rattle.std.proofs.shelf.Lists.{take-all, take-more, take-more-set, length-set}
+use Rattle.std.proofs.shelf.Tests.{le-leb, and-from, cond-true}
+use Rattle.std.specs.declared.option.Option.{Option}
+use Rattle.std.specs.declared.option.Option.the-variants.{Some, None}
+use Rattle.clocks.specs.Lawful.{letter, every, lawfulName}
+
+pub copied-more : (bytes letters : List ℕ) (i : ℕ) → i < length bytes → length bytes ≤ 12
+  → (take i letters ≡ take i bytes) × (length letters ≡ 12)
+  → (take (i + 1) (set letters i (getD bytes i 0)) ≡ take (i + 1) bytes) × (length (set letters i (getD bytes i 0)) ≡ 12)
+copied-more bytes letters i in′ short so =
+    (take-more-set letters i _ (omega arith) ∙ ap (λ l. l ++ getD bytes i 0 ∷ []) (so .0) ∙ sym (take-more bytes i 0 in′),
+     length-set letters i _ ∙ so .1)
+
+pub copied-all : (bytes letters : List ℕ) (i : ℕ) → length bytes ≤ i → i ≤ length bytes → take i letters ≡ take i bytes → take (length bytes) letters ≡ bytes
+copied-all bytes letters i past within so =
+    let e : length bytes ≡ i = omega arith in
+    ap (λ k. take k letters) e ∙ so ∙ take-all i bytes past
+
+pub name-is-lawful : (bytes : List ℕ) → (length bytes ≡ 0 → ⊥) → length bytes ≤ 12 → true ≡ every letter bytes → lawfulName bytes ≡ true
+name-is-lawful bytes some short letters =
+    and-from _ _ (and-from _ _ (le-leb 1 (length bytes) (omega arith)) (le-leb (length bytes) 12 short)) (sym letters)
+
+pub name-some : (bytes taken : List ℕ) → taken ≡ bytes → lawfulName bytes ≡ true → Some taken ≡ cond (lawfulName bytes) (Some bytes) None
+name-some bytes taken e h = ap Some e ∙ sym (cond-true _ _ _ h)

@@ -1,0 +1,5 @@
+pub mod Search
+pub mod Cells
+pub mod Lawful
+pub mod Forms
+pub mod Held

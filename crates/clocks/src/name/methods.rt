@@ -1,0 +1,57 @@
+ghost use Rattle.clocks.specs.Forms.{text};
+ghost use Rattle.clocks.specs.Lawful.{lawfulName, letter, every};
+ghost use Rattle.std.specs.Options.{mapped};
+ghost use Rattle.std.specs.Orderings.{Decides};
+ghost use Rattle.std.specs.declared.option.Option.the-variants.{Some, None};
+ghost use mathlib.Core.Bool.{cond};
+ghost use mathlib.Core.Path.{_≡_};
+use super::Name;
+
+impl Name {
+    // The name with these letters; none exactly when they are not 1 to 12 letters from a to z.
+    pub fn new(bytes: &[u8]) -> Option<Name>
+        ensures { λ r. ⌜ mapped text r ≡ cond (lawfulName (now (bytes .entry))) (Some (now (bytes .entry))) None ⌝ }
+    {
+        let size = bytes.len();
+        if size == 0 || size > 12 || !all_letters(bytes) {
+            return None;
+        }
+        let mut letters = [b'a'; 12];
+        for (i, b) in bytes.iter().enumerate() {
+            letters[i] = *b;
+        }
+        Some(Name { letters, size })
+    }
+
+    pub fn bytes(&self) -> &[u8]
+        ensures { λ r. ⌜ now r ≡ text (now (self .entry)) ⌝ }
+    {
+        &self.letters[0..self.size]
+    }
+}
+
+fn is_letter(b: u8) -> bool
+    ensures { λ r. ⌜ r ≡ letter b ⌝ }
+{
+    matches!(b, b'a'..=b'z')
+}
+
+fn all_letters(bytes: &[u8]) -> bool
+    ensures { λ r. ⌜ r ≡ every letter (now (bytes .entry)) ⌝ }
+{
+    for b in bytes {
+        if !is_letter(*b) {
+            return false;
+        }
+    }
+    true
+}
+
+// Two names are the same if their letters are.
+pub impl PartialEq<Name> for Name as NamePartialEq {
+    ghost equals = { λ a b r. Decides r (text a ≡ text b) };
+
+    fn eq(&self, other: &Name) -> bool {
+        *self.bytes() == *other.bytes()
+    }
+}
