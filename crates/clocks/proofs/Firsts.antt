@@ -1,4 +1,4 @@
--- `firstOf` gives what `First` says, and nothing else is `First`. Assumes nothing.
+-- `firstOf` gives the first place at which a question holds, and no other answer is `First`. Assumes nothing.
 use Prim.Native.Nat.{ℕ, zero, suc, _<_}
 use mathlib.Core.Bool.{Bool, true, false, cond, true≢false}
 use mathlib.Core.List.{List, [], _∷_}
@@ -36,7 +36,7 @@ module _ {A : Type 0} (f : A → Bool) where
   firstOf-is-first [] = λ k d h. none-below-zero k h
   firstOf-is-first (x ∷ xs) = first-by-head x xs (firstOf f xs) (f x) refl (firstOf-is-first xs)
 
-  -- ---- and nothing else is
+  -- ---- no other answer is `First`
 
   contrary : {X : Type 0} (x : A) → f x ≡ true → f x ≡ false → X
   contrary x t n = absurd (true≢false (sym t ∙ n))

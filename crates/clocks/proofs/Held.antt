@@ -14,6 +14,8 @@ use Rattle.meaning.specs.declared.values.Bound.the-variants.{Any, Never, AtLeas
 use Rattle.meaning.specs.declared.values.Edge.{Edge}
 use Rattle.meaning.specs.Tables.{Contents}
 use Rattle.meaning.proofs.Behaviours.{Fair}
+use Rattle.clocks.specs.declared.table.Table.{Table}
+use Rattle.clocks.specs.Held.{contents}
 use Rattle.clocks.specs.Lawful.{every, lawfulBound, isAny, lawfulBounds, lawfulEdge, lawfulNames, lawful, isBlank, standing}
 
 every-member : {X : Type 0} (f : X → Bool) (xs : List X) → every f xs ≡ true → (x : X) → List·Memᴰ x xs → f x ≡ true
@@ -105,3 +107,15 @@ pub table-is-fair : (t : Contents) → standing t ≡ true → Fair t
 table-is-fair t h =
     let kept = table-is-kept t h in
     record { few = kept .events; within = λ e mem. kept .sound e mem .others; events = λ e mem. kept .sound e mem .event }
+
+-- The same of a table as the code holds it.
+pub kept : (t : Table) → Kept (contents t)
+kept t = table-is-kept (contents t) (t .lawful)
+
+pub fair : (t : Table) → Fair (contents t)
+fair t = table-is-fair (contents t) (t .lawful)
+
+pub edges-fit : (t : Table) (e : Edge) → List·Memᴰ e (contents t .edges) → (e .source < 32) × (e .target < 32)
+edges-fit t e mem =
+    let sound = kept t .sound e mem in
+    (omega (arith, sound .source, kept t .places), omega (arith, sound .target, kept t .places))

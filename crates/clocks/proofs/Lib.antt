@@ -4,3 +4,5 @@ pub mod Cells
 pub mod Firsts
 pub mod Lawfulness
 pub mod Held
+pub mod Masks
+pub mod Runs

@@ -3,3 +3,4 @@ pub mod Cells
 pub mod Lawful
 pub mod Forms
 pub mod Held
+pub mod Roles

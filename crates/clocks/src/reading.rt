@@ -94,6 +94,7 @@ fn holds(bound: Bound, cell: Option<u16>) -> bool
     }
 }
 
+// A derived `==` would promise nothing of the cells. This one tells exactly whether two readings are the same.
 pub impl PartialEq<Reading> for Reading as ReadingPartialEq {
     ghost equals = { λ a b r. Decides r (a ≡ b) };
 

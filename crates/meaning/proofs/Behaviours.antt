@@ -17,7 +17,8 @@ use Rattle.meaning.specs.declared.values.Place.{Place}
 use Rattle.meaning.specs.declared.values.Edge.{Edge}
 use Rattle.meaning.specs.Words.{Word}
 use Rattle.meaning.specs.Tables.{Contents, automaton, Accepts, Behaviour}
-use Rattle.meaning.specs.Stepping.{Cells, never, aged, advanced, capped, restarted, moves, inSet, meets, placesFrom, starts, finals, ends, capOf}
+use Rattle.meaning.specs.Stepping.{Cells, Move, CappedReads, never, aged, advanced, capped, restarted, moves, inSet, meets, placesFrom, starts, finals, ends, reached, capOf}
+use Rattle.meaning.proofs.Readings.{reading-at}
 use Rattle.meaning.proofs.Paths.{Path, Within, Reaches, reaches-from-accepts, accepts-from-reaches}
 use Rattle.meaning.proofs.Sets.{path-from-end, end-from-path, marked-from-place, place-from-marked}
 use Rattle.meaning.proofs.Bits.{meets-tells, meets-from}
@@ -28,10 +29,6 @@ pub record Fair (t : Contents) : Type 0 where
   pub few : length (t .names) ≤ 8
   pub within : Within (length (t .names)) (t .edges)
   pub events : (e : Edge) → List·Memᴰ e (t .edges) → e .event < length (t .names)
-
--- the places after the moves of a word, with cells capped at c
-abbrev pub reached : ℕ → Contents → List Pair → ℕ
-reached c t w = ends (t .edges) (starts (t .places)) (moves (advanced c) (length (t .names)) never w)
 
 abbrev pub behaves : ℕ → Contents → List Pair → Bool
 behaves c t w = ltb 0 (length w) && meets (reached c t w) (finals (t .places))
@@ -84,3 +81,14 @@ module _ (t : Contents) (fair : Fair t) where
         ((ltb-true 0 (length w) (parts .0), words-only w never (r .0) (r .1) (r .4)), accepts),
     λ b. and-from _ _ (lt-ltb 0 (length w) (b .0 .0)) (accepts-told c high w (b .1)),
   )
+
+nth-map-some : {X Y : Type 0} (f : X → Y) (xs : List X) (i : ℕ) (y : Y) → nth (map f xs) i ≡ Some y → (x : X) × (nth xs i ≡ Some x) × (f x ≡ y)
+nth-map-some f [] i y h = absurd (let z : _≡_ {A = ℕ} 0 1 = cc in omega arith)
+nth-map-some f (x ∷ xs) zero y h = (x, refl, (let e : f x ≡ y = cc in e))
+nth-map-some f (x ∷ xs) (suc i) y h = nth-map-some f xs i y h
+
+-- What the moves with capped cells hold at a position is the reading there, capped.
+pub capped-reading-at : (c n : ℕ) (w : List Pair) → n ≤ 8 → (j : ℕ) (m : Move) → nth (moves (advanced c) n never w) j ≡ Some m → CappedReads c n w j (m .reading)
+capped-reading-at c n w few j m is =
+    let k = nth-map-some (cappedMove c) (moves aged n never w) j m (ap (λ l. nth l j) (sym (moves-capped c n never w)) ∙ is) in
+    (k .0 .reading, reading-at n w few j (k .0) (k .1), ap (λ x. x .reading) (sym (k .2)))

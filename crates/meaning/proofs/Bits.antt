@@ -1,7 +1,8 @@
 -- Sets of places as numbers: which places are in a union, in an intersection, in a set of one. Assumes nothing.
 use Prim.Native.Nat.{ℕ, zero, suc, _+_, _-_, _*_, _/_, _%_, _^_, _<_, _≤_, min, max}
 use native.Mathlib.Omega.{arith}
-use native.Mathlib.Nat.{zero-div, div-one, div-self, div-eq-of-lt, two-pow-succ, pow-zero}
+use native.Mathlib.Nat.{zero-div, div-one, div-self, div-eq-of-lt, two-pow-succ, add-comm}
+use lib.Pow.{pow-mono}
 use mathlib.Core.Path.{_≡_, refl, sym, ap, subst, _∙_}
 use mathlib.Core.Logic.{_⊎_, inl, inr, ⊎-elim}
 use mathlib.Core.Bool.{Bool, true, false, not, _&&_, _||_}
@@ -79,3 +80,36 @@ meets-tells s t h =
 pub meets-from : (s t p : ℕ) → inSet s p ≡ true → inSet t p ≡ true → meets s t ≡ true
 meets-from s t p a b =
     not-from-false _ (ne-eqb (bitAnd s t) 0 (λ e. both-ways (inSet (bitAnd s t) p) (ap (λ x. inSet x p) e ∙ in-empty p) (in-meet s t p ∙ and-from _ _ a b)))
+
+-- Sets with the same places are the same number.
+same-sets-below : (k s t : ℕ) → s < 2 ^ k → t < 2 ^ k → ((p : ℕ) → inSet s p ≡ inSet t p) → s ≡ t
+same-sets-below zero s t h g all = omega arith
+same-sets-below (suc k) s t h g all =
+    let low : s % 2 ≡ t % 2 = same-bit (s % 2) (t % 2) (omega arith) (omega arith) (first-place s ∙ all 0 ∙ sym (first-place t)) in
+    let high : s / 2 ≡ t / 2 =
+          same-sets-below k (s / 2) (t / 2) (omega (arith, two-pow-succ k)) (omega (arith, two-pow-succ k))
+            (λ p. later-place s p ∙ all (1 + p) ∙ sym (later-place t p)) in
+    omega (arith, low, high)
+  where
+    same-bit : (a b : ℕ) → a < 2 → b < 2 → eqb a 1 ≡ eqb b 1 → a ≡ b
+    same-bit a b x y e = grind (arith, tells)
+    first-place : (n : ℕ) → eqb (n % 2) 1 ≡ inSet n 0
+    first-place n = ap (λ x. eqb (x % 2) 1) (sym (div-one n))
+    later-place : (n p : ℕ) → inSet (n / 2) p ≡ inSet n (1 + p)
+    later-place n p = ap (λ x. eqb (x % 2) 1) (shr-shr n 1 p)
+
+pub same-sets : (s t : ℕ) → ((p : ℕ) → inSet s p ≡ inSet t p) → s ≡ t
+same-sets s t all = same-sets-below (s + t) s t (wide s t (below-power s)) (subst (λ k. t < 2 ^ k) (add-comm t s) (wide t s (below-power t))) all
+  where
+    wide : (a b : ℕ) → a < 2 ^ a → a < 2 ^ (a + b)
+    wide a b h = let grows : 2 ^ a ≤ 2 ^ (a + b) = pow-mono (let le : a ≤ a + b = omega arith in le) in omega arith
+
+pub union-assoc : (s t u : ℕ) → bitOr (bitOr s t) u ≡ bitOr s (bitOr t u)
+union-assoc s t u = same-sets _ _ (λ p.
+    in-union (bitOr s t) u p ∙ ap (λ b. b || inSet u p) (in-union s t p)
+    ∙ or-assoc (inSet s p) (inSet t p) (inSet u p)
+    ∙ ap (λ b. inSet s p || b) (sym (in-union t u p)) ∙ sym (in-union s (bitOr t u) p))
+  where
+    or-assoc : (a b c : Bool) → ((a || b) || c) ≡ (a || (b || c))
+    or-assoc true b c = refl
+    or-assoc false b c = refl

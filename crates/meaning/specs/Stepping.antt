@@ -3,9 +3,10 @@
 use Prim.Native.Nat.{ℕ, suc, _+_, _/_, _%_, _^_, min, max}
 use mathlib.Core.Bool.{Bool, true, false, _&&_, not, cond}
 use mathlib.Core.List.{List, [], _∷_, map}
+use mathlib.Core.Path.{_≡_}
 use lib.Bits.{bitOr, bitAnd}
 use lib.Dec.{eqb, leb, ltb}
-use lib.ListN.{set, replicate}
+use lib.ListN.{length, set, replicate}
 use Rattle.std.specs.Options.{mapped}
 use Rattle.std.specs.declared.option.Option.{Option}
 use Rattle.std.specs.declared.option.Option.the-variants.{Some, None}
@@ -14,6 +15,8 @@ use Rattle.meaning.specs.declared.values.Bound.{Bound}
 use Rattle.meaning.specs.declared.values.Bound.the-variants.{Any, Never, AtLeast, Between}
 use Rattle.meaning.specs.declared.values.Place.{Place}
 use Rattle.meaning.specs.declared.values.Edge.{Edge}
+use Rattle.meaning.specs.Words.{Reads}
+use Rattle.meaning.specs.Tables.{Contents}
 
 -- A reading: for each event the ticks since it last came, or None for never. The code keeps eight cells.
 abbrev pub Cells : Type 0
@@ -36,6 +39,10 @@ advanced c d cells = capped c (aged d cells)
 -- event a comes: its cell becomes 0. An event at or past the count n changes no cell.
 abbrev pub restarted : ℕ → ℕ → Cells → Cells
 restarted n a cells = cond (ltb a n) (set cells a (Some 0)) cells
+
+-- The reading at position j of a word over n events, capped at c.
+abbrev pub CappedReads : ℕ → ℕ → List Pair → ℕ → Cells → Type 0
+CappedReads c n w j cells = (whole : Cells) × Reads n w j whole × (cells ≡ capped c whole)
 
 -- One pair of a word as an edge sees it: the event, and the reading when it comes, before its own cell is set to 0.
 pub record Move : Type 0 where
@@ -95,6 +102,10 @@ targets (e ∷ es) s a cells = cond (leaves e s a cells) (bitOr (2 ^ (e .target)
 abbrev pub ends : List Edge → ℕ → List Move → ℕ
 ends es s [] = s
 ends es s (m ∷ ms) = ends es (targets es s (m .event) (m .reading)) ms
+
+-- the places where computations of a table over a word end, with cells capped at c
+abbrev pub reached : ℕ → Contents → List Pair → ℕ
+reached c t w = ends (t .edges) (starts (t .places)) (moves (advanced c) (length (t .names)) never w)
 
 -- The cap of a table is the largest number in its bounds, or 0.
 abbrev pub top : Bound → ℕ

@@ -1,8 +1,8 @@
-use Prim.Native.Nat.{ℕ, _<_}
-use mathlib.Core.Bool.{Bool, true}
-use mathlib.Core.Path.{_≡_, sym, ap, _∙_}
+use Prim.Native.Nat.{_<_}
+use mathlib.Core.Bool.{true}
+use mathlib.Core.Path.{sym, ap, _∙_}
 use native.Mathlib.Omega.{arith}
-use lib.ListN.{length, getD}
+use lib.ListN.{length}
 use Rattle.std.proofs.shelf.Lists.{getD-read}
 use Rattle.std.specs.Keys.{Equiv}
 use Rattle.std.specs.declared.option.Option.the-variants.{Some, None}
