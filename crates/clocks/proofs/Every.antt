@@ -33,17 +33,17 @@ module _ {X : Type 0} (f : X → Bool) (xs : List X) (i : ℕ) (r : Bool) where
 -- the bounds of an edge, where the question depends on the place
 module _ (n : ℕ) (bs : List Bound) (i : ℕ) (r : Bool) where
   split-bounds : (d : Bound) → i < length bs → lawfulBounds n i (drop i bs) ≡ r
-    → (cond (ltb i n) (lawfulBound (getD bs i d)) (isAny (getD bs i d)) && lawfulBounds n (i + 1) (drop (i + 1) bs)) ≡ r
+      → (cond (ltb i n) (lawfulBound (getD bs i d)) (isAny (getD bs i d)) && lawfulBounds n (i + 1) (drop (i + 1) bs)) ≡ r
   split-bounds d in′ so =
       ap (λ k. cond (ltb i n) (lawfulBound (getD bs i d)) (isAny (getD bs i d)) && lawfulBounds n k (drop (i + 1) bs)) (add-one i)
       ∙ sym (at-drop-more (lawfulBounds n i) bs i d in′) ∙ so
 
   pub bounds-more : (d : Bound) → i < length bs → true ≡ cond (ltb i n) (lawfulBound (getD bs i d)) (isAny (getD bs i d))
-    → lawfulBounds n i (drop i bs) ≡ r → lawfulBounds n (i + 1) (drop (i + 1) bs) ≡ r
+      → lawfulBounds n i (drop i bs) ≡ r → lawfulBounds n (i + 1) (drop (i + 1) bs) ≡ r
   bounds-more d in′ yes′ so = goes-on _ _ r yes′ (split-bounds d in′ so)
 
   pub bounds-fail : (d : Bound) → i < length bs → false ≡ cond (ltb i n) (lawfulBound (getD bs i d)) (isAny (getD bs i d))
-    → lawfulBounds n i (drop i bs) ≡ r → false ≡ r
+      → lawfulBounds n i (drop i bs) ≡ r → false ≡ r
   bounds-fail d in′ no′ so = settles _ (lawfulBounds n (i + 1) (drop (i + 1) bs)) r no′ (split-bounds d in′ so)
 
   pub bounds-all : length bs ≤ i → lawfulBounds n i (drop i bs) ≡ r → true ≡ r

@@ -45,12 +45,12 @@ names-are-lawful [] = refl
 names-are-lawful (n ∷ names) = and-from _ _ (n .lawful) (names-are-lawful names)
 
 module _ (names : List Name) (i : ℕ) (name : Name) (in′ : i < length names) (is : name ≡ getD names i name) (d : Bool) (so : different (map text (drop i names)) ≡ d)
-  (r : Option ℕ) (found : r ≡ firstOf (λ y. sameBytes (text y) (text name)) (take (length names - (i + 1)) (drop (i + 1) names))) where
+    (r : Option ℕ) (found : r ≡ firstOf (λ y. sameBytes (text y) (text name)) (take (length names - (i + 1)) (drop (i + 1) names))) where
   -- what is asked of the name at i
   here : (not (isSome r) && different (map text (drop (i + 1) names))) ≡ d
   here =
       let later : r ≡ firstOf (λ y. sameBytes y (text name)) (map text (drop (i + 1) names)) =
-            found ∙ ap (firstOf (λ y. sameBytes (text y) (text name))) (take-rest names (i + 1)) ∙ sym (firstOf-map (λ y. sameBytes y (text name)) text (drop (i + 1) names)) in
+      found ∙ ap (firstOf (λ y. sameBytes (text y) (text name))) (take-rest names (i + 1)) ∙ sym (firstOf-map (λ y. sameBytes y (text name)) text (drop (i + 1) names)) in
       let apart : drop i names ≡ name ∷ drop (i + 1) names = drop-more names i name in′ ∙ ap (λ n. n ∷ drop (i + 1) names) (sym is) in
       ap (λ x. not (isSome x) && different (map text (drop (i + 1) names))) later ∙ sym (ap (λ l. different (map text l)) apart) ∙ so
 
@@ -65,8 +65,8 @@ different-all names i d past so = sym (ap (λ l. different (map text l)) (drop-a
 
 -- a running maximum
 pub max-more : {X : Type 0} (f : X → ℕ) (F : List X → ℕ) → ((x : X) (ys : List X) → F (x ∷ ys) ≡ max (f x) (F ys))
-  → (xs : List X) (i : ℕ) (d : X) → i < length xs → (m v n t : ℕ) → v ≡ f (getD xs i d) → n ≡ max v m
-  → max m (F (drop i xs)) ≡ t → max n (F (drop (i + 1) xs)) ≡ t
+    → (xs : List X) (i : ℕ) (d : X) → i < length xs → (m v n t : ℕ) → v ≡ f (getD xs i d) → n ≡ max v m
+    → max m (F (drop i xs)) ≡ t → max n (F (drop (i + 1) xs)) ≡ t
 max-more f F step xs i d in′ m v n t is new so =
     let e : F (drop i xs) ≡ max (f (getD xs i d)) (F (drop (i + 1) xs)) = ap F (drop-more xs i d in′) ∙ step _ _ in
     omega (arith, e, so)
@@ -93,8 +93,8 @@ lawful-names-is names some few d is =
     is ∙ sym (λ i. (low i && high i) && (names-are-lawful names i && different (map text names)))
 
 pub lawful-is : (tick : ℕ) (names : List Name) (places : List Place) (edges : List Edge) (e : Bool) → (tick ≡ 0 → ⊥) → tick ≤ 60000
-  → true ≡ lawfulNames (map text names) → (length places ≡ 0 → ⊥) → length places ≤ 32 → e ≡ lawfulEdges (length names) (length places) edges
-  → e ≡ lawful (form tick names places edges)
+    → true ≡ lawfulNames (map text names) → (length places ≡ 0 → ⊥) → length places ≤ 32 → e ≡ lawfulEdges (length names) (length places) edges
+    → e ≡ lawful (form tick names places edges)
 lawful-is tick names places edges e some small named place few is =
     let a : leb 1 tick ≡ true = le-leb 1 tick (omega arith) in
     let b : leb tick 60000 ≡ true = le-leb tick 60000 small in

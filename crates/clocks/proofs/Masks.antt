@@ -24,7 +24,7 @@ grown : (acc q rest : ℕ) → q < 32 → bitOr (bitOr acc ((1 * 2 ^ q) % 2 ^ 32
 grown acc q rest h = ap (λ x. bitOr (bitOr acc x) rest) (one-shl q 32 h) ∙ union-assoc acc (2 ^ q) rest
 
 module _ (f : Place → Bool) (ps : List Place) (i acc whole : ℕ) (d : Place) (in′ : i < length ps)
-  (so : bitOr acc (placesFrom f i (drop i ps)) ≡ whole) where
+    (so : bitOr acc (placesFrom f i (drop i ps)) ≡ whole) where
   places-split : bitOr acc (cond (f (getD ps i d)) (bitOr (2 ^ i) (placesFrom f (i + 1) (drop (i + 1) ps))) (placesFrom f (i + 1) (drop (i + 1) ps))) ≡ whole
   places-split =
       ap (λ k. bitOr acc (cond (f (getD ps i d)) (bitOr (2 ^ i) (placesFrom f k (drop (i + 1) ps))) (placesFrom f k (drop (i + 1) ps)))) (add-one i)
@@ -43,12 +43,12 @@ pub places-all : (f : Place → Bool) (ps : List Place) (i acc whole : ℕ) → 
 places-all f ps i acc whole past so = sym (or-zero-r acc) ∙ sym (ap (bitOr acc) (at-drop-all (placesFrom f i) ps i past)) ∙ so
 
 module _ (es : List Edge) (s a : ℕ) (cells : Cells) (i acc whole : ℕ) (d : Edge) (in′ : i < length es)
-  (so : bitOr acc (targets (drop i es) s a cells) ≡ whole) where
+    (so : bitOr acc (targets (drop i es) s a cells) ≡ whole) where
   targets-split : bitOr acc (cond (leaves (getD es i d) s a cells) (bitOr (2 ^ (getD es i d .target)) (targets (drop (i + 1) es) s a cells)) (targets (drop (i + 1) es) s a cells)) ≡ whole
   targets-split = ap (bitOr acc) (sym (at-drop-more (λ l. targets l s a cells) es i d in′)) ∙ so
 
   pub targets-take : getD es i d .target < 32 → true ≡ leaves (getD es i d) s a cells
-    → bitOr (bitOr acc ((1 * 2 ^ (getD es i d .target)) % 2 ^ 32)) (targets (drop (i + 1) es) s a cells) ≡ whole
+      → bitOr (bitOr acc ((1 * 2 ^ (getD es i d .target)) % 2 ^ 32)) (targets (drop (i + 1) es) s a cells) ≡ whole
   targets-take low yes′ =
       grown acc (getD es i d .target) _ low
       ∙ ap (λ b. bitOr acc (cond b (bitOr (2 ^ (getD es i d .target)) (targets (drop (i + 1) es) s a cells)) (targets (drop (i + 1) es) s a cells))) yes′ ∙ targets-split

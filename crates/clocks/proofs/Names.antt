@@ -12,11 +12,12 @@ use Rattle.std.specs.declared.option.Option.the-variants.{Some, None}
 use Rattle.clocks.specs.Lawful.{letter, every, lawfulName}
 
 pub copied-more : (bytes letters : List ℕ) (i : ℕ) → i < length bytes → length bytes ≤ 12
-  → (take i letters ≡ take i bytes) × (length letters ≡ 12)
-  → (take (i + 1) (set letters i (getD bytes i 0)) ≡ take (i + 1) bytes) × (length (set letters i (getD bytes i 0)) ≡ 12)
-copied-more bytes letters i in′ short so =
-    (take-more-set letters i _ (omega arith) ∙ ap (λ l. l ++ getD bytes i 0 ∷ []) (so .0) ∙ sym (take-more bytes i 0 in′),
-     length-set letters i _ ∙ so .1)
+    → (take i letters ≡ take i bytes) × (length letters ≡ 12)
+    → (take (i + 1) (set letters i (getD bytes i 0)) ≡ take (i + 1) bytes) × (length (set letters i (getD bytes i 0)) ≡ 12)
+copied-more bytes letters i in′ short so = (
+  take-more-set letters i _ (omega arith) ∙ ap (λ l. l ++ getD bytes i 0 ∷ []) (so .0) ∙ sym (take-more bytes i 0 in′),
+  length-set letters i _ ∙ so .1,
+)
 
 pub copied-all : (bytes letters : List ℕ) (i : ℕ) → length bytes ≤ i → i ≤ length bytes → take i letters ≡ take i bytes → take (length bytes) letters ≡ bytes
 copied-all bytes letters i past within so =

@@ -43,15 +43,16 @@ module _ (t : Contents) (fair : Fair t) where
   at-place f l h = place-from-marked f 0 (t .places) l l (h .0) (zero-add l) (h .1) (h .2)
 
   words-only : (w : List Pair) (cells : Cells) (l q : ℕ) → Path (t .edges) l (moves aged (length (t .names)) cells w) q
-    → All (λ p. p .event < length (t .names)) w
+      → All (λ p. p .event < length (t .names)) w
   words-only [] cells l q path = tt
-  words-only (p ∷ w) cells l q path =
-      (subst (λ a. a < length (t .names)) (path .3) (fair .events (path .0) (path .1)),
-       words-only w (restarted (length (t .names)) (p .event) (aged (p .wait) cells)) (path .0 .target) q (path .5))
+  words-only (p ∷ w) cells l q path = (
+    subst (λ a. a < length (t .names)) (path .3) (fair .events (path .0) (path .1)),
+    words-only w (restarted (length (t .names)) (p .event) (aged (p .wait) cells)) (path .0 .target) q (path .5),
+  )
 
   -- capping at the table's cap, or above it, changes nothing
   pub reached-capped : (c : ℕ) → capOf (t .edges) ≤ c → (w : List Pair)
-    → reached c t w ≡ ends (t .edges) (starts (t .places)) (moves aged (length (t .names)) never w)
+      → reached c t w ≡ ends (t .edges) (starts (t .places)) (moves aged (length (t .names)) never w)
   reached-capped c high w =
       ap (ends (t .edges) (starts (t .places))) (moves-capped c (length (t .names)) never w)
       ∙ ends-capped c (t .edges) (starts (t .places)) (moves aged (length (t .names)) never w) high
@@ -60,17 +61,17 @@ module _ (t : Contents) (fair : Fair t) where
   accepts-tells c high w h =
       let both = meets-tells _ _ h in
       let end = path-from-end (t .edges) (starts (t .places)) (moves aged (length (t .names)) never w) (both .0)
-            (ap (λ s. inSet s (both .0)) (sym (reached-capped c high w)) ∙ both .1) in
+      (ap (λ s. inSet s (both .0)) (sym (reached-capped c high w)) ∙ both .1) in
       accepts-from-reaches t (length (t .names)) (fair .few) (fair .within) w
-        (end .0, both .0, place-at (λ p. p .start) (end .0) (end .1), place-at (λ p. p .accepting) (both .0) (both .2), end .2)
+      (end .0, both .0, place-at (λ p. p .start) (end .0) (end .1), place-at (λ p. p .accepting) (both .0) (both .2), end .2)
 
   pub accepts-told : (c : ℕ) → capOf (t .edges) ≤ c → (w : List Pair) → Accepts t w → meets (reached c t w) (finals (t .places)) ≡ true
   accepts-told c high w h =
       let r = reaches-from-accepts t (length (t .names)) (fair .few) (fair .within) w h in
       meets-from _ _ (r .1)
-        (ap (λ s. inSet s (r .1)) (reached-capped c high w)
-         ∙ end-from-path (t .edges) (starts (t .places)) (moves aged (length (t .names)) never w) (r .1) (r .0, at-place (λ p. p .start) (r .0) (r .2), r .4))
-        (at-place (λ p. p .accepting) (r .1) (r .3))
+      (ap (λ s. inSet s (r .1)) (reached-capped c high w)
+      ∙ end-from-path (t .edges) (starts (t .places)) (moves aged (length (t .names)) never w) (r .1) (r .0, at-place (λ p. p .start) (r .0) (r .2), r .4))
+      (at-place (λ p. p .accepting) (r .1) (r .3))
 
   pub behaves-decides : (c : ℕ) → capOf (t .edges) ≤ c → (w : List Pair) → Decides (behaves c t w) (Behaviour t w)
   behaves-decides c high w = (

@@ -44,13 +44,13 @@ pub in-one : (q p : ℕ) → inSet (2 ^ q) p ≡ eqb q p
 in-one q p = ⊎-elim
     (λ same. ap (λ x. inSet (2 ^ x) p) same ∙ ap (λ x. eqb (x % 2) 1) (div-self (pow-pos p)) ∙ sym (eq-eqb q p same))
     (⊎-elim
-     (λ below. ap (λ x. eqb (x % 2) 1) (div-eq-of-lt (pow-below q p below)) ∙ sym (ne-eqb q p (λ e. omega arith)))
-     (λ above.
-         let k = q - suc p in
-         let split : q ≡ suc k + p = omega arith in
-         let half : 2 ^ q / 2 ^ p ≡ 2 ^ k + 2 ^ k = ap (λ x. 2 ^ x / 2 ^ p) split ∙ ap (λ x. x / 2 ^ p) (pow-add 2 (suc k) p) ∙ shl-shr (2 ^ suc k) p ∙ two-pow-succ k in
-         let even : (2 ^ q / 2 ^ p) % 2 ≡ 0 = omega (arith, half) in
-         ap (λ x. eqb x 1) even ∙ sym (ne-eqb q p (λ e. omega arith))))
+    (λ below. ap (λ x. eqb (x % 2) 1) (div-eq-of-lt (pow-below q p below)) ∙ sym (ne-eqb q p (λ e. omega arith)))
+    (λ above.
+    let k = q - suc p in
+    let split : q ≡ suc k + p = omega arith in
+    let half : 2 ^ q / 2 ^ p ≡ 2 ^ k + 2 ^ k = ap (λ x. 2 ^ x / 2 ^ p) split ∙ ap (λ x. x / 2 ^ p) (pow-add 2 (suc k) p) ∙ shl-shr (2 ^ suc k) p ∙ two-pow-succ k in
+    let even : (2 ^ q / 2 ^ p) % 2 ≡ 0 = omega (arith, half) in
+    ap (λ x. eqb x 1) even ∙ sym (ne-eqb q p (λ e. omega arith))))
     (cases-order q p)
 
 -- a number that is not 0 has some place in it
@@ -59,8 +59,8 @@ some-place zero n h some = absurd (some (omega arith))
 some-place (suc k) n h some = ⊎-elim
     (λ odd. (0, eq-eqb _ 1 (ap (λ x. x % 2) (div-one n) ∙ odd)))
     (λ even.
-        let rest = some-place k (n / 2) (omega (arith, two-pow-succ k)) (λ e. some (omega arith)) in
-        (1 + rest .0, ap (λ x. eqb (x % 2) 1) (sym (shr-shr n 1 (rest .0))) ∙ rest .1))
+    let rest = some-place k (n / 2) (omega (arith, two-pow-succ k)) (λ e. some (omega arith)) in
+    (1 + rest .0, ap (λ x. eqb (x % 2) 1) (sym (shr-shr n 1 (rest .0))) ∙ rest .1))
     (parity n)
   where
     parity : (m : ℕ) → (m % 2 ≡ 1) ⊎ (m % 2 ≡ 0)
@@ -87,14 +87,16 @@ same-sets-below zero s t h g all = omega arith
 same-sets-below (suc k) s t h g all =
     let low : s % 2 ≡ t % 2 = same-bit (s % 2) (t % 2) (omega arith) (omega arith) (first-place s ∙ all 0 ∙ sym (first-place t)) in
     let high : s / 2 ≡ t / 2 =
-          same-sets-below k (s / 2) (t / 2) (omega (arith, two-pow-succ k)) (omega (arith, two-pow-succ k))
-            (λ p. later-place s p ∙ all (1 + p) ∙ sym (later-place t p)) in
+    same-sets-below k (s / 2) (t / 2) (omega (arith, two-pow-succ k)) (omega (arith, two-pow-succ k))
+    (λ p. later-place s p ∙ all (1 + p) ∙ sym (later-place t p)) in
     omega (arith, low, high)
   where
     same-bit : (a b : ℕ) → a < 2 → b < 2 → eqb a 1 ≡ eqb b 1 → a ≡ b
     same-bit a b x y e = grind (arith, tells)
+
     first-place : (n : ℕ) → eqb (n % 2) 1 ≡ inSet n 0
     first-place n = ap (λ x. eqb (x % 2) 1) (sym (div-one n))
+
     later-place : (n p : ℕ) → inSet (n / 2) p ≡ inSet n (1 + p)
     later-place n p = ap (λ x. eqb (x % 2) 1) (shr-shr n 1 p)
 

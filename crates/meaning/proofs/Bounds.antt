@@ -29,7 +29,7 @@ module _ (w : TimedWord) (j : ℕ) where
   passes a t v known h = subst (Passes t) (clock-has-one-value w j a _ _ (h .1) known) (h .2)
 
   pub bound-holds : (a : ℕ) (b : Bound) (v : Option ℕ) → Clock w j a v
-    → All (Holds w j) (map (λ t. record { clock = a; test = t }) (tests b)) → holds b v ≡ true
+      → All (Holds w j) (map (λ t. record { clock = a; test = t }) (tests b)) → holds b v ≡ true
   bound-holds a Any v known h = refl
   bound-holds a Never None known h = refl
   bound-holds a Never (Some v) known h = absurd (passes a undefined (Some v) known (h .0))
@@ -40,7 +40,7 @@ module _ (w : TimedWord) (j : ℕ) where
       and-from _ _ (le-leb c v (passes a (at-least c) (Some v) known (h .0))) (le-leb v d (passes a (at-most d) (Some v) known (h .1 .0)))
 
   pub atoms-hold : (a : ℕ) (b : Bound) (v : Option ℕ) → Clock w j a v → holds b v ≡ true
-    → All (Holds w j) (map (λ t. record { clock = a; test = t }) (tests b))
+      → All (Holds w j) (map (λ t. record { clock = a; test = t }) (tests b))
   atoms-hold a Any v known h = tt
   atoms-hold a Never None known h = ((None, known, tt), tt)
   atoms-hold a Never (Some v) known h = absurd (false≢true h)
@@ -64,7 +64,7 @@ module _ (w : TimedWord) (j : ℕ) where
   any-atoms a b e = subst (λ x. All (Holds w j) (map (λ t. record { clock = a; test = t }) (tests x))) (sym e) tt
 
   pub bounds-hold : (i : ℕ) (bs : List Bound) (cells : Cells) → Read i bs cells
-    → All (Holds w j) (atoms i bs) → holdsAll bs cells ≡ true
+      → All (Holds w j) (atoms i bs) → holdsAll bs cells ≡ true
   bounds-hold i [] cells read h = refl
   bounds-hold i (b ∷ bs) [] read h =
       let parts = all-parts (Holds w j) _ (atoms (suc i) bs) h in
@@ -74,7 +74,7 @@ module _ (w : TimedWord) (j : ℕ) where
       and-from _ _ (⊎-elim (any-holds b v) (λ c. bound-holds i b v c (parts .0)) (read .0)) (bounds-hold (suc i) bs cells (read .1) (parts .1))
 
   pub constraint-holds : (i : ℕ) (bs : List Bound) (cells : Cells) → Read i bs cells
-    → holdsAll bs cells ≡ true → All (Holds w j) (atoms i bs)
+      → holdsAll bs cells ≡ true → All (Holds w j) (atoms i bs)
   constraint-holds i [] cells read h = tt
   constraint-holds i (b ∷ bs) [] read h =
       let parts = and-parts _ _ h in
@@ -85,11 +85,13 @@ module _ (w : TimedWord) (j : ℕ) where
 
   -- by places: what is known of each event suffices
   pub read-from-places : (i : ℕ) (bs : List Bound) (cells : Cells)
-    → ((k : ℕ) → (getD bs k Any ≡ Any) ⊎ Clock w j (i + k) (getD cells k None)) → Read i bs cells
+      → ((k : ℕ) → (getD bs k Any ≡ Any) ⊎ Clock w j (i + k) (getD cells k None)) → Read i bs cells
   read-from-places i [] cells h = tt
-  read-from-places i (b ∷ bs) [] h =
-      (⊎-elim inl (λ c. inr (subst (λ a. Clock w j a None) (add-zero i) c)) (h 0),
-       read-from-places (suc i) bs [] (λ k. ⊎-elim inl (λ c. inr (let e : i + suc k ≡ suc i + k = omega arith in subst (λ a. Clock w j a None) e c)) (h (suc k))))
-  read-from-places i (b ∷ bs) (v ∷ cells) h =
-      (⊎-elim inl (λ c. inr (subst (λ a. Clock w j a v) (add-zero i) c)) (h 0),
-       read-from-places (suc i) bs cells (λ k. ⊎-elim inl (λ c. inr (let e : i + suc k ≡ suc i + k = omega arith in subst (λ a. Clock w j a (getD cells k None)) e c)) (h (suc k))))
+  read-from-places i (b ∷ bs) [] h = (
+    ⊎-elim inl (λ c. inr (subst (λ a. Clock w j a None) (add-zero i) c)) (h 0),
+    read-from-places (suc i) bs [] (λ k. ⊎-elim inl (λ c. inr (let e : i + suc k ≡ suc i + k = omega arith in subst (λ a. Clock w j a None) e c)) (h (suc k))),
+  )
+  read-from-places i (b ∷ bs) (v ∷ cells) h = (
+    ⊎-elim inl (λ c. inr (subst (λ a. Clock w j a v) (add-zero i) c)) (h 0),
+    read-from-places (suc i) bs cells (λ k. ⊎-elim inl (λ c. inr (let e : i + suc k ≡ suc i + k = omega arith in subst (λ a. Clock w j a (getD cells k None)) e c)) (h (suc k))),
+  )

@@ -39,6 +39,7 @@ restarted-capped n a c cells = go (ltb a n)
     zeroed : set (capped c cells) a (Some 0) ≡ capped c (set cells a (Some 0))
     zeroed = let e : _≡_ {A = ℕ} 0 (min 0 (c + 1)) = omega arith in
         ap (λ x. set (capped c cells) a (Some x)) e ∙ sym (map-set (limited c) cells a (Some 0))
+
     go : (b : Bool) → cond b (set (capped c cells) a (Some 0)) (capped c cells) ≡ capped c (cond b (set cells a (Some 0)) cells)
     go true = zeroed
     go false = refl
@@ -48,12 +49,12 @@ cappedMove c m = record { event = m .event; reading = capped c (m .reading) }
 
 -- The moves with capped cells are the moves, capped.
 pub moves-capped : (c n : ℕ) (cells : Cells) (w : List Pair)
-  → moves (advanced c) n (capped c cells) w ≡ map (cappedMove c) (moves aged n cells w)
+    → moves (advanced c) n (capped c cells) w ≡ map (cappedMove c) (moves aged n cells w)
 moves-capped c n cells [] = refl
 moves-capped c n cells (p ∷ w) =
     let here = advanced-capped c (p .wait) cells in
     let later : restarted n (p .event) (advanced c (p .wait) (capped c cells)) ≡ capped c (restarted n (p .event) (aged (p .wait) cells)) =
-          ap (restarted n (p .event)) here ∙ restarted-capped n (p .event) c (aged (p .wait) cells) in
+    ap (restarted n (p .event)) here ∙ restarted-capped n (p .event) c (aged (p .wait) cells) in
     let rest = ap (λ x. moves (advanced c) n x w) later ∙ moves-capped c n (restarted n (p .event) (aged (p .wait) cells)) w in
     λ i. record { event = p .event; reading = here i } ∷ rest i
 

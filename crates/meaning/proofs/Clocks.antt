@@ -43,10 +43,13 @@ since-later w i t a d (Some v) h = (h .0, h .1, h .2, h .3, omega (arith, h .4))
 
 pub since-other : (w : TimedWord) (i t a : ℕ) (v : Option ℕ) → (w .event i ≡ a → ⊥) → Since w i t a v → Since w (suc i) t a v
 since-other w i t a None ne h = λ k l e. ⊎-elim (λ same. ne (subst (λ x. w .event x ≡ a) same e)) (λ other. h k (omega arith) e) (cases-eq k i)
-since-other w i t a (Some v) ne h =
-    (h .0, omega (arith, h .1), h .2,
-     λ m above below e. ⊎-elim (λ same. ne (subst (λ x. w .event x ≡ a) same e)) (λ other. h .3 m above (omega arith) e) (cases-eq m i),
-     h .4)
+since-other w i t a (Some v) ne h = (
+  h .0,
+  omega (arith, h .1),
+  h .2,
+  λ m above below e. ⊎-elim (λ same. ne (subst (λ x. w .event x ≡ a) same e)) (λ other. h .3 m above (omega arith) e) (cases-eq m i),
+  h .4,
+)
 
 pub since-same : (w : TimedWord) (i t a : ℕ) → w .event i ≡ a → w .time i ≡ t → Since w (suc i) t a (Some 0)
 since-same w i t a e s = (i, omega arith, e, λ m above below _. omega arith, omega (arith, s))
@@ -64,18 +67,18 @@ pub known-aged : (w : TimedWord) (n i t d : ℕ) (cells : Cells) → Known w n i
 known-aged w n i t d cells h = λ a l. subst (Since w i (t + d) a) (sym (getD-mapped (λ x. x + d) cells a)) (since-later w i t a d _ (h a l))
 
 pub known-restarted : (w : TimedWord) (n i t e : ℕ) (cells : Cells) → n ≤ length cells → w .event i ≡ e → w .time i ≡ t
-  → Known w n i t cells → Known w n (suc i) t (restarted n e cells)
+    → Known w n i t cells → Known w n (suc i) t (restarted n e cells)
 known-restarted w n i t e cells fits is at h = λ a l. ⊎-elim
     (λ same.
-        let inside : e < n = omega arith in
-        let put : restarted n e cells ≡ set cells e (Some 0) = cond-true _ _ _ (lt-ltb e n inside) in
-        let is0 : getD (restarted n e cells) a None ≡ Some 0 = ap (λ x. getD (restarted n e cells) x None) same ∙ ap (λ x. getD x e None) put ∙ getD-set-same cells e (Some 0) None (omega arith) in
-        subst (Since w (suc i) t a) (sym is0) (since-same w i t a (is ∙ sym same) at))
+    let inside : e < n = omega arith in
+    let put : restarted n e cells ≡ set cells e (Some 0) = cond-true _ _ _ (lt-ltb e n inside) in
+    let is0 : getD (restarted n e cells) a None ≡ Some 0 = ap (λ x. getD (restarted n e cells) x None) same ∙ ap (λ x. getD x e None) put ∙ getD-set-same cells e (Some 0) None (omega arith) in
+    subst (Since w (suc i) t a) (sym is0) (since-same w i t a (is ∙ sym same) at))
     (λ other.
-        let kept : getD (restarted n e cells) a None ≡ getD cells a None =
-              ⊎-elim
-              (λ inside. ap (λ x. getD x a None) (cond-true _ _ _ (lt-ltb e n inside)) ∙ getD-set-other cells e a (Some 0) None other)
-              (λ past. ap (λ x. getD x a None) (cond-false _ _ _ (le-ltb e n past)))
-              (cases-lt e n) in
-        subst (Since w (suc i) t a) (sym kept) (since-other w i t a _ (λ f. other (sym f ∙ is)) (h a l)))
+    let kept : getD (restarted n e cells) a None ≡ getD cells a None =
+    ⊎-elim
+    (λ inside. ap (λ x. getD x a None) (cond-true _ _ _ (lt-ltb e n inside)) ∙ getD-set-other cells e a (Some 0) None other)
+    (λ past. ap (λ x. getD x a None) (cond-false _ _ _ (le-ltb e n past)))
+    (cases-lt e n) in
+    subst (Since w (suc i) t a) (sym kept) (since-other w i t a _ (λ f. other (sym f ∙ is)) (h a l)))
     (cases-eq a e)

@@ -37,6 +37,7 @@ length-restarted n a cells = go (ltb a n)
   where
     put : length (set cells a (Some 0)) ≡ length cells
     put = length-set cells a (Some 0)
+
     go : (b : Bool) → length (cond b (set cells a (Some 0)) cells) ≡ length cells
     go true = put
     go false = refl
@@ -96,14 +97,15 @@ module _ {W : TimedWord} {n i T : ℕ} {cells : Cells} {p : Pair} {w : List Pair
 
 -- At every position of the rest, the reading is that of the clocks.
 readings-along : (w : List Pair) (W : TimedWord) (n i T : ℕ) (cells : Cells) → Along W n i T cells w
-  → (j : ℕ) (m : Move) → nth (moves aged n cells w) j ≡ Some m
-  → (length (m .reading) ≡ 8) × ((a : ℕ) → a < n → Clock W (i + j) a (getD (m .reading) a None)) × ((a : ℕ) → n ≤ a → getD (m .reading) a None ≡ None)
+    → (j : ℕ) (m : Move) → nth (moves aged n cells w) j ≡ Some m
+    → (length (m .reading) ≡ 8) × ((a : ℕ) → a < n → Clock W (i + j) a (getD (m .reading) a None)) × ((a : ℕ) → n ≤ a → getD (m .reading) a None ≡ None)
 readings-along [] W n i T cells along j m is = absurd (let z : _≡_ {A = ℕ} 0 1 = cc in omega arith)
 readings-along (p ∷ w) W n i T cells along zero m is =
-    let e : aged (p .wait) cells ≡ m .reading = ap read is in
-    (ap length (sym e) ∙ size-here along,
-     λ a low. let at : i ≡ i + 0 = omega arith in subst (λ x. Clock W (i + 0) a (getD x a None)) e (subst (λ x. Clock W x a (getD (aged (p .wait) cells) a None)) at (clock-here along a low)),
-     λ a past. ap (λ x. getD x a None) (sym e) ∙ others-here along a past)
+    let e : aged (p .wait) cells ≡ m .reading = ap read is in (
+      ap length (sym e) ∙ size-here along,
+      λ a low. let at : i ≡ i + 0 = omega arith in subst (λ x. Clock W (i + 0) a (getD x a None)) e (subst (λ x. Clock W x a (getD (aged (p .wait) cells) a None)) at (clock-here along a low)),
+      λ a past. ap (λ x. getD x a None) (sym e) ∙ others-here along a past,
+    )
   where
     read : Option Move → Cells
     read None = []

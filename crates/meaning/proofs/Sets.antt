@@ -38,9 +38,9 @@ target-from-leads [] s a cells p h = absurd (List·Memᴰ·not-nil (h .1))
 target-from-leads (e ∷ es) s a cells p h =
     in-cond (leaves e s a cells) (e .target) (targets es s a cells) p
     ∙ ⊎-elim
-      (λ same. or-left _ _ (and-from _ _ (ap (λ x. leaves x s a cells) (sym same) ∙ h .2) (eq-eqb _ _ (ap (λ x. x .target) (sym same) ∙ h .3))))
-      (λ there. or-right _ _ (target-from-leads es s a cells p (h .0, there, h .2, h .3)))
-      (List·Memᴰ·cases-cons (h .1))
+    (λ same. or-left _ _ (and-from _ _ (ap (λ x. leaves x s a cells) (sym same) ∙ h .2) (eq-eqb _ _ (ap (λ x. x .target) (sym same) ∙ h .3))))
+    (λ there. or-right _ _ (target-from-leads es s a cells p (h .0, there, h .2, h .3)))
+    (List·Memᴰ·cases-cons (h .1))
 
 -- A path over the moves ends in p that begins in the set.
 abbrev pub Ends : List Edge → ℕ → List Move → ℕ → Type 0
@@ -62,9 +62,9 @@ end-from-path es s (m ∷ ms) p h =
     let step = h .2 in
     let e = step .0 in
     let left : leaves e s (m .event) (m .reading) ≡ true =
-          and-from _ _ (ap (inSet s) (step .2) ∙ h .1) (and-from _ _ (eq-eqb _ _ (step .3)) (step .4)) in
+    and-from _ _ (ap (inSet s) (step .2) ∙ h .1) (and-from _ _ (eq-eqb _ _ (step .3)) (step .4)) in
     end-from-path es (targets es s (m .event) (m .reading)) ms p
-      (e .target, target-from-leads es s (m .event) (m .reading) (e .target) (e, step .1, left, refl), step .5)
+    (e .target, target-from-leads es s (m .event) (m .reading) (e .target) (e, step .1, left, refl), step .5)
 
 -- The places of which a test holds.
 abbrev pub Marked : (Place → Bool) → ℕ → List Place → ℕ → Type 0
@@ -75,13 +75,13 @@ marked-from-place f i [] p h = absurd (both-ways _ (in-empty p) h)
 marked-from-place f i (x ∷ ps) p h = ⊎-elim
     (λ here. let both = and-parts _ _ here in (0, x, add-zero i ∙ eqb-true _ _ (both .1), refl, both .0))
     (λ there.
-        let rest = marked-from-place f (suc i) ps p there in
-        let at = rest .2 in
-        (suc (rest .0), rest .1, omega (arith, at), rest .3, rest .4))
+    let rest = marked-from-place f (suc i) ps p there in
+    let at = rest .2 in
+    (suc (rest .0), rest .1, omega (arith, at), rest .3, rest .4))
     (or-cases _ _ (sym (in-cond (f x) i (placesFrom f (suc i) ps) p) ∙ h))
 
 pub place-from-marked : (f : Place → Bool) (i : ℕ) (ps : List Place) (p k : ℕ) (y : Place) → i + k ≡ p → nth ps k ≡ Some y → f y ≡ true
-  → inSet (placesFrom f i ps) p ≡ true
+    → inSet (placesFrom f i ps) p ≡ true
 place-from-marked f i [] p k y at is h = absurd (none-is-not-some is)
   where
     none-is-not-some : nth [] k ≡ Some y → ⊥

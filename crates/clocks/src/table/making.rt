@@ -22,7 +22,13 @@ impl Table {
     pub fn blank(heap: Global) -> Table
         ensures { λ r. ⌜ contents r ≡ blank ⌝ }
     {
-        Table { tick: 0, names: Vec::new(heap), places: Vec::new(heap), edges: Vec::new(heap), cap: 0 }
+        Table {
+            tick: 0,
+            names: Vec::new(heap),
+            places: Vec::new(heap),
+            edges: Vec::new(heap),
+            cap: 0,
+        }
     }
 
     // The table with these parts; none exactly when a limit is broken.
@@ -33,7 +39,13 @@ impl Table {
             return None;
         }
         let cap = cap_of(edges.as_slice());
-        Some(Table { tick, names, places, edges, cap })
+        Some(Table {
+            tick,
+            names,
+            places,
+            edges,
+            cap,
+        })
     }
 
     pub fn tick(&self) -> u16

@@ -9,14 +9,14 @@ use Rattle.clocks.proofs.limits.lawful_edges.Needs as need
 pub returns-then-not-lawful-edge : need.returns-then-not-lawful-edge
 returns-then-not-lawful-edge c =
     sym (and-right _ _ (sym (every-fails (lawfulEdge (c .args .events) (c .args .places)) (c .args .edges .now) (c .loop-edge .edge-index) _ _
-      (c .loop-edge-test .taken) (c .if-not-lawful-edge .ensures tt) (c .loop-edge .inv))))
+    (c .loop-edge-test .taken) (c .if-not-lawful-edge .ensures tt) (c .loop-edge .inv))))
 
 pub loop-edge-again : need.loop-edge-again
 loop-edge-again c =
     every-more (lawfulEdge (c .args .events) (c .args .places)) (c .args .edges .now) (c .loop-edge .edge-index) _ _
-      (c .loop-edge-test .taken) (c .if-not-lawful-edge .ensures tt) (c .loop-edge .inv)
+    (c .loop-edge-test .taken) (c .if-not-lawful-edge .ensures tt) (c .loop-edge .inv)
 
 pub returns : need.returns
 returns c =
     sym (and-from _ _ (le-leb (length (c .args .edges .now)) 64 (c .if-edges-gt64 .left))
-      (sym (every-all (lawfulEdge (c .args .events) (c .args .places)) (c .args .edges .now) (c .loop-edge .edge-index) _ (c .loop-edge-test .left) (c .loop-edge .inv))))
+    (sym (every-all (lawfulEdge (c .args .events) (c .args .places)) (c .args .edges .now) (c .loop-edge .edge-index) _ (c .loop-edge-test .left) (c .loop-edge .inv))))

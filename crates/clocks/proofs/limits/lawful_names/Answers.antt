@@ -6,9 +6,9 @@ use Rattle.clocks.proofs.limits.lawful_names.Needs.{then-is-empty·by·then-is
 
 pub returns-then-is-empty : need.returns-then-is-empty
 returns-then-is-empty c = elim (c .then-is-empty .came) [
-    then-is-empty·by·then-is-empty w ↦ too-few-names (c .args .names .now) (true-eqb _ 0 (w .if-is-empty .ensures tt))
+  | then-is-empty·by·then-is-empty w ↦ too-few-names (c .args .names .now) (true-eqb _ 0 (w .if-is-empty .ensures tt))
   | then-is-empty·by·else-is-empty·then-names-gt8 w ↦ too-many-names (c .args .names .now) (w .if-names-gt8 .taken)
-  ]
+]
 
 pub returns : need.returns
 returns c = lawful-names-is (c .args .names .now) (false-eqb _ 0 (c .if-is-empty .ensures tt)) (c .if-names-gt8 .left) _ (c .all-different .ensures)

@@ -9,7 +9,7 @@ use Rattle.clocks.proofs.table.Table.behaves.Needs as need
 pub returns-else-not-is-empty : need.returns-else-not-is-empty
 returns-else-not-is-empty c =
     empty-is-none (contents (c .args .self .now)) (fair (c .args .self .now)) (c .args .word .now) _ (ap not (c .if-not-is-empty .left))
-      (true-eqb _ 0 (c .if-not-is-empty .ensures tt))
+    (true-eqb _ 0 (c .if-not-is-empty .ensures tt))
 
 pub returns-then-not-is-empty : need.returns-then-not-is-empty
 returns-then-not-is-empty c =

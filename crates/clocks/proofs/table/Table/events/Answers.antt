@@ -12,5 +12,10 @@ returns c = c .len .ensures ∙ c .args .self .now .names .ok .0 ∙ sym (length
 
 pub cast-result : need.cast-result
 cast-result c =
-    omega (arith, table-is-kept (contents (c .args .self .now)) (c .args .self .now .lawful) .events, c .len .ensures, c .args .self .now .names .ok .0,
-      length-map (vec-items (c .args .self .now .names)) text)
+    omega (
+      arith,
+      table-is-kept (contents (c .args .self .now)) (c .args .self .now .lawful) .events,
+      c .len .ensures,
+      c .args .self .now .names .ok .0,
+      length-map (vec-items (c .args .self .now .names)) text,
+    )

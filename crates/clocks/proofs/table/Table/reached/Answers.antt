@@ -14,7 +14,7 @@ pub loop-pair-again : need.loop-pair-again
 loop-pair-again c =
     let t = contents (c .args .self .now) in
     walk-more (t .edges) (capOf (t .edges)) (length (t .names)) (c .args .word .now) (c .loop-pair .pair-index) _ (c .loop-pair-test .taken) _ _ _ (c .loop-pair .inv)
-      (c .cap .result) (c .events .result) _ _ _ (c .cap .ensures) (c .advanced-reading .ensures) (c .targets-set .ensures) (c .events .ensures) (c .restarted-reading .ensures)
+    (c .cap .result) (c .events .result) _ _ _ (c .cap .ensures) (c .advanced-reading .ensures) (c .targets-set .ensures) (c .events .ensures) (c .restarted-reading .ensures)
 
 pub returns : need.returns
 returns c =

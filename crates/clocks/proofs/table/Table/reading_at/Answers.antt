@@ -22,14 +22,14 @@ pub loop-pair-again : need.loop-pair-again
 loop-pair-again c =
     let t = contents (c .args .self .now) in
     reading-more (capOf (t .edges)) (length (t .names)) (c .args .word .now) (c .args .position) (c .loop-pair .pair-index) _ (c .loop-pair .reading .cells) (c .loop-pair .inv)
-      _ (getD-take (c .args .position - 0) (c .args .word .now) (c .loop-pair .pair-index) _ (omega arith)) (omega arith) (c .if-position-word .left)
-      (c .cap .result) (c .events .result) _ _ (c .cap .ensures) (c .advanced-reading .ensures) (c .events .ensures) (c .restarted-reading .ensures)
+    _ (getD-take (c .args .position - 0) (c .args .word .now) (c .loop-pair .pair-index) _ (omega arith)) (omega arith) (c .if-position-word .left)
+    (c .cap .result) (c .events .result) _ _ (c .cap .ensures) (c .advanced-reading .ensures) (c .events .ensures) (c .restarted-reading .ensures)
 
 pub returns : need.returns
 returns c =
     let t = contents (c .args .self .now) in
     let found = reading-all (capOf (t .edges)) (length (t .names)) (c .args .word .now) (c .args .position) (c .loop-pair .pair-index) _ (c .loop-pair .reading .cells) (c .loop-pair .inv)
-          (omega arith) (c .if-position-word .left) (c .cap-2 .result) (c .advanced .result .cells) (c .cap-2 .ensures) (c .advanced .ensures) in
+    (omega arith) (c .if-position-word .left) (c .cap-2 .result) (c .advanced .result .cells) (c .cap-2 .ensures) (c .advanced .ensures) in
     record {
       value = sym (ap (mapped (λ m. m .reading)) found);
       clocks = capped-reading-at (capOf (t .edges)) (length (t .names)) (c .args .word .now) (kept (c .args .self .now) .events) (c .args .position) _ found;

@@ -16,8 +16,8 @@ loop-p-again c =
     let p = c .loop-p .p in
     let rest = λ (k : ℕ). bitOr k (placesFrom f (p + 1) (drop (p + 1) ps)) in
     elim (c .if-is-played-by .came) [
-      then-is-played-by w ↦ ap rest (w .set-is) ∙ places-take f ps p _ _ _ (c .loop-p-test .taken) (c .loop-p .inv) (omega (arith, c .pre)) (w .if-is-played-by .ensures tt)
-    | else-is-played-by w ↦ ap rest (w .set-is) ∙ places-pass f ps p _ _ _ (c .loop-p-test .taken) (c .loop-p .inv) (w .if-is-played-by .ensures tt)
+      | then-is-played-by w ↦ ap rest (w .set-is) ∙ places-take f ps p _ _ _ (c .loop-p-test .taken) (c .loop-p .inv) (omega (arith, c .pre)) (w .if-is-played-by .ensures tt)
+      | else-is-played-by w ↦ ap rest (w .set-is) ∙ places-pass f ps p _ _ _ (c .loop-p-test .taken) (c .loop-p .inv) (w .if-is-played-by .ensures tt)
     ]
 
 pub returns : need.returns

@@ -16,9 +16,9 @@ loop-edge-again c =
     let es = c .args .edges .now in
     let rest = λ (k : ℕ). bitOr k (targets (drop (c .loop-edge .edge-index + 1) es) (c .args .set) (c .args .event) (c .args .reading .now .cells)) in
     elim (c .if-leaves-set .came) [
-      then-leaves-set w ↦ ap rest (w .reached-is) ∙ targets-take es _ _ _ (c .loop-edge .edge-index) _ _ _ (c .loop-edge-test .taken) (c .loop-edge .inv)
-        (c .pre _ (getD-member es (c .loop-edge .edge-index) _ (c .loop-edge-test .taken)) .1) (w .if-leaves-set .ensures tt)
-    | else-leaves-set w ↦ ap rest (w .reached-is) ∙ targets-pass es _ _ _ (c .loop-edge .edge-index) _ _ _ (c .loop-edge-test .taken) (c .loop-edge .inv) (w .if-leaves-set .ensures tt)
+      | then-leaves-set w ↦ ap rest (w .reached-is) ∙ targets-take es _ _ _ (c .loop-edge .edge-index) _ _ _ (c .loop-edge-test .taken) (c .loop-edge .inv)
+          (c .pre _ (getD-member es (c .loop-edge .edge-index) _ (c .loop-edge-test .taken)) .1) (w .if-leaves-set .ensures tt)
+      | else-leaves-set w ↦ ap rest (w .reached-is) ∙ targets-pass es _ _ _ (c .loop-edge .edge-index) _ _ _ (c .loop-edge-test .taken) (c .loop-edge .inv) (w .if-leaves-set .ensures tt)
     ]
 
 pub returns : need.returns
