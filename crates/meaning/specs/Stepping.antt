@@ -55,6 +55,11 @@ moves age n cells [] = []
 moves age n cells (p ∷ w) =
     record { event = p .event; reading = age (p .wait) cells } ∷ moves age n (restarted n (p .event) (age (p .wait) cells)) w
 
+-- the cells after all pairs of a word
+abbrev pub cellsAfter : (ℕ → Cells → Cells) → ℕ → Cells → List Pair → Cells
+cellsAfter age n cells [] = cells
+cellsAfter age n cells (p ∷ w) = cellsAfter age n (restarted n (p .event) (age (p .wait) cells)) w
+
 abbrev pub holds : Bound → Option ℕ → Bool
 holds Any v = true
 holds Never None = true

@@ -1,11 +1,9 @@
 ghost use Rattle.clocks.specs.Held.{contents};
 ghost use Rattle.clocks.specs.Roles.{plays};
-ghost use Rattle.meaning.specs.Stepping.{starts, finals, placesFrom, inSet, leaves, targets, reached, capOf, moves, advanced, never, CappedReads};
+ghost use Rattle.meaning.specs.Stepping.{starts, finals, placesFrom, inSet, leaves, targets, reached, capOf, advanced, restarted, never, cellsAfter, CappedReads};
 ghost use Rattle.meaning.specs.Tables.{Behaviour};
-ghost use Rattle.std.specs.Finite.{nth};
-ghost use Rattle.std.specs.Options.{mapped};
+ghost use Rattle.std.specs.Options.{Cases as BySome};
 ghost use Rattle.std.specs.Orderings.{Decides};
-ghost use Rattle.std.specs.Slices.{found};
 ghost use Rattle.std.specs.Of.Vec.{vec-items};
 ghost use Prim.Native.Nat.{_≤_, _<_};
 ghost use lib.ListN.{length};
@@ -17,6 +15,13 @@ use crate::table::roles::Role;
 use meaning::values::Edge;
 use meaning::values::Pair;
 use meaning::values::Place;
+
+// How far a walk along a word has come: the places reached, and the reading after the last pair.
+#[derive(Clone, Copy, Drop)]
+struct Front {
+    set: u32,
+    reading: Reading,
+}
 
 fn is_played_by(role: Role, place: Place) -> bool
     ensures { λ r. ⌜ r ≡ plays role place ⌝ }
@@ -77,57 +82,74 @@ impl Table {
     pub fn starts(&self) -> u32
         ensures { λ r. ⌜ r ≡ starts (contents (now (self .entry)) .places) ⌝ }
     {
-        places_in_role(self.places.as_slice(), Role::Start)
+        places_in_role(self.few_places(), Role::Start)
     }
 
     // The set of the places where a computation may end.
     pub fn finals(&self) -> u32
         ensures { λ r. ⌜ r ≡ finals (contents (now (self .entry)) .places) ⌝ }
     {
-        places_in_role(self.places.as_slice(), Role::Accepting)
+        places_in_role(self.few_places(), Role::Accepting)
     }
 
     // The targets of all edges that leave the set under the event and the reading.
     pub fn targets(&self, set: u32, event: u8, reading: &Reading) -> u32
         ensures { λ r. ⌜ r ≡ targets (contents (now (self .entry)) .edges) set event (now (reading .entry) .cells) ⌝ }
     {
-        targets_of(self.edges.as_slice(), set, event, reading)
+        targets_of(self.small_edges(), set, event, reading)
     }
 
-    // The places where computations over the word end.
-    fn reached(&self, word: &[Pair]) -> u32
-        ensures { λ r. ⌜ r ≡ reached (capOf (contents (now (self .entry)) .edges)) (contents (now (self .entry))) (now (word .entry)) ⌝ }
+    // One pair further: the wait passes, the edges take the event, and only then the event's own clock restarts.
+    fn stepped(&self, front: Front, pair: Pair) -> Front
+        ensures set { λ r. ⌜ r .set ≡ targets (contents (now (self .entry)) .edges) (front .set) (pair .event) (advanced (capOf (contents (now (self .entry)) .edges)) (pair .wait) (front .reading .cells)) ⌝ }
+        ensures reading { λ r. ⌜ r .reading .cells ≡ restarted (length (contents (now (self .entry)) .names)) (pair .event) (advanced (capOf (contents (now (self .entry)) .edges)) (pair .wait) (front .reading .cells)) ⌝ }
     {
-        let mut reading = Reading::never();
-        let mut set = self.starts();
+        let reading = front.reading.advanced(pair.wait, self.cap());
+        let set = self.targets(front.set, pair.event, &reading);
+        Front { set, reading: reading.restarted(pair.event, self.events()) }
+    }
+
+    // The places reached and the reading after all pairs.
+    fn walked(&self, word: &[Pair]) -> Front
+        ensures set { λ r. ⌜ r .set ≡ reached (capOf (contents (now (self .entry)) .edges)) (contents (now (self .entry))) (now (word .entry)) ⌝ }
+        ensures reading { λ r. ⌜ r .reading .cells ≡ cellsAfter (advanced (capOf (contents (now (self .entry)) .edges))) (length (contents (now (self .entry)) .names)) never (now (word .entry)) ⌝ }
+    {
+        let mut front = Front { set: self.starts(), reading: Reading::never() };
         for pair in word {
-            reading = reading.advanced(pair.wait, self.cap());
-            set = self.targets(set, pair.event, &reading);
-            reading = reading.restarted(pair.event, self.events());
+            front = self.stepped(front, *pair);
         }
-        set
+        front
+    }
+
+    // Whether some computation over the word ends in a final place.
+    fn accepts(&self, word: &[Pair]) -> bool
+        ensures { λ r. ⌜ (0 < length (now (word .entry)) → Decides r (Behaviour (contents (now (self .entry))) (now (word .entry)))) ⌝ }
+    {
+        self.walked(word).set & self.finals() != 0
     }
 
     // Whether the word is a behaviour: it has a pair, and some computation over it ends in a final place.
     pub fn behaves(&self, word: &[Pair]) -> bool
         ensures { λ r. ⌜ Decides r (Behaviour (contents (now (self .entry))) (now (word .entry))) ⌝ }
     {
-        !word.is_empty() && self.reached(word) & self.finals() != 0
+        if word.is_empty() {
+            return false;
+        }
+        self.accepts(word)
+    }
+
+    fn reading_within(&self, word: &[Pair], position: usize) -> Reading
+        requires { ⌜ position < length (now word) ⌝ }
+        ensures { λ r. ⌜ CappedReads (capOf (contents (now (self .entry)) .edges)) (length (contents (now (self .entry)) .names)) (now (word .entry)) position (r .cells) ⌝ }
+    {
+        let before = self.walked(&word[0..position]).reading;
+        before.advanced(word[position].wait, self.cap())
     }
 
     // The reading at a position of a word, capped at the table's cap; none past its end.
     pub fn reading_at(&self, word: &[Pair], position: usize) -> Option<Reading>
-        ensures value { λ r. ⌜ mapped (λ x. x .cells) r ≡ mapped (λ m. m .reading) (nth (moves (advanced (capOf (contents (now (self .entry)) .edges))) (length (contents (now (self .entry)) .names)) never (now (word .entry))) position) ⌝ }
-        ensures clocks { λ r. ⌜ found r (λ x. CappedReads (capOf (contents (now (self .entry)) .edges)) (length (contents (now (self .entry)) .names)) (now (word .entry)) position (x .cells)) ⌝ }
+        ensures { λ r. ⌜ BySome r (length (now (word .entry)) ≤ position) (λ x. (position < length (now (word .entry))) × CappedReads (capOf (contents (now (self .entry)) .edges)) (length (contents (now (self .entry)) .names)) (now (word .entry)) position (x .cells)) ⌝ }
     {
-        if position >= word.len() {
-            return None;
-        }
-        let mut reading = Reading::never();
-        for pair in &word[0..position] {
-            reading = reading.advanced(pair.wait, self.cap());
-            reading = reading.restarted(pair.event, self.events());
-        }
-        Some(reading.advanced(word[position].wait, self.cap()))
+        if position < word.len() { Some(self.reading_within(word, position)) } else { None }
     }
 }
