@@ -17,7 +17,6 @@ use Rattle.std.specs.declared.option.Option.the-variants.{Some, None}
 use Rattle.meaning.specs.Stepping.{Cells, advanced, holds, holdsAll}
 use Rattle.meaning.specs.declared.values.Bound.{Bound}
 use Rattle.clocks.specs.Cells.{advancedCell}
-use Rattle.clocks.specs.declared.reading.Reading.{Reading}
 
 -- ---- a wait passes
 
@@ -76,10 +75,8 @@ same-cells (x ∷ xs) (y ∷ ys) h =
 abbrev pub CellsMatch : Cells → Cells → Bool → Type 0
 CellsMatch = Matches (λ (p q : Option ℕ) (t : Bool). Cases p (Cases q (t ≡ true) (λ _. t ≡ false)) (λ x. Cases q (t ≡ false) (λ y. Decides t (x ≡ y))))
 
-pub cells-decide-reading : (a b : Reading) (r : Bool) → CellsMatch (a .cells) (b .cells) r → Decides r (a ≡ b)
-cells-decide-reading a b r h =
+pub cells-decide : (xs ys : Cells) (r : Bool) → CellsMatch xs ys r → Decides r (xs ≡ ys)
+cells-decide xs ys r h =
     let o = optional-equal unsigned-equal in
-    let e = pairwise o .says (a .cells) (b .cells) r h in (
-      λ t i. record { cells = same-cells (a .cells) (b .cells) (sym e ∙ t) i },
-      λ s. e ∙ subst (λ (x : Reading). each o (a .cells) (x .cells) ≡ true) s (each-itself o (a .cells)),
-    )
+    let e = pairwise o .says xs ys r h in
+    (λ t. same-cells xs ys (sym e ∙ t), λ s. e ∙ subst (λ zs. each o xs zs ≡ true) s (each-itself o xs))

@@ -94,12 +94,18 @@ fn holds(bound: Bound, cell: Option<u16>) -> bool
     }
 }
 
+fn same_cells(one: &[Option<u16>; 8], other: &[Option<u16>; 8]) -> bool
+    ensures { λ r. ⌜ Decides r (now (one .entry) ≡ now (other .entry)) ⌝ }
+{
+    *one == *other
+}
+
 // A derived `==` would promise nothing of the cells. This one tells exactly whether two readings are the same.
 pub impl PartialEq<Reading> for Reading as ReadingPartialEq {
     ghost equals = { λ a b r. Decides r (a ≡ b) };
 
     fn eq(&self, other: &Reading) -> bool {
-        self.cells == other.cells
+        same_cells(&self.cells, &other.cells)
     }
 }
 

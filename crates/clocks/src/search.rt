@@ -9,11 +9,17 @@ pub fn position<T: PartialEq<T>>(list: &[T], sought: &T) -> Option<usize>
     ensures first { λ r. ⌜ ((o : Equiv (T·PartialEq .equals)) → First (λ y. o .same y (now (sought .entry))) (now (list .entry)) r) ⌝ }
 {
     for (i, element) in list.iter().enumerate() {
-        if *element == *sought {
+        if is_same(element, sought) {
             return Some(i);
         }
     }
     None
+}
+
+fn is_same<T: PartialEq<T>>(one: &T, other: &T) -> bool
+    ensures { λ r. ⌜ T·PartialEq .equals (now (one .entry)) (now (other .entry)) r ⌝ }
+{
+    *one == *other
 }
 
 #[cfg(test)]

@@ -47,11 +47,17 @@ fn all_letters(bytes: &[u8]) -> bool
     true
 }
 
+fn same_bytes(one: &[u8], other: &[u8]) -> bool
+    ensures { λ r. ⌜ Decides r (now (one .entry) ≡ now (other .entry)) ⌝ }
+{
+    *one == *other
+}
+
 // Two names are the same if their letters are.
 pub impl PartialEq<Name> for Name as NamePartialEq {
     ghost equals = { λ a b r. Decides r (text a ≡ text b) };
 
     fn eq(&self, other: &Name) -> bool {
-        *self.bytes() == *other.bytes()
+        same_bytes(self.bytes(), other.bytes())
     }
 }

@@ -106,7 +106,10 @@ impl Table {
     {
         let reading = front.reading.advanced(pair.wait, self.cap());
         let set = self.targets(front.set, pair.event, &reading);
-        Front { set, reading: reading.restarted(pair.event, self.events()) }
+        Front {
+            set,
+            reading: reading.restarted(pair.event, self.events()),
+        }
     }
 
     // The places reached and the reading after all pairs.
@@ -114,7 +117,10 @@ impl Table {
         ensures set { λ r. ⌜ r .set ≡ reached (capOf (contents (now (self .entry)) .edges)) (contents (now (self .entry))) (now (word .entry)) ⌝ }
         ensures reading { λ r. ⌜ r .reading .cells ≡ cellsAfter (advanced (capOf (contents (now (self .entry)) .edges))) (length (contents (now (self .entry)) .names)) never (now (word .entry)) ⌝ }
     {
-        let mut front = Front { set: self.starts(), reading: Reading::never() };
+        let mut front = Front {
+            set: self.starts(),
+            reading: Reading::never(),
+        };
         for pair in word {
             front = self.stepped(front, *pair);
         }
@@ -150,6 +156,10 @@ impl Table {
     pub fn reading_at(&self, word: &[Pair], position: usize) -> Option<Reading>
         ensures { λ r. ⌜ BySome r (length (now (word .entry)) ≤ position) (λ x. (position < length (now (word .entry))) × CappedReads (capOf (contents (now (self .entry)) .edges)) (length (contents (now (self .entry)) .names)) (now (word .entry)) position (x .cells)) ⌝ }
     {
-        if position < word.len() { Some(self.reading_within(word, position)) } else { None }
+        if position < word.len() {
+            Some(self.reading_within(word, position))
+        } else {
+            None
+        }
     }
 }

@@ -5,10 +5,9 @@ ghost use Rattle.meaning.specs.Stepping.{capOf};
 ghost use Rattle.std.specs.Of.Vec.{vec-items};
 ghost use Rattle.std.specs.Options.{mapped};
 ghost use Rattle.std.specs.declared.option.Option.the-variants.{Some, None};
-ghost use Prim.Native.Nat.{_≤_, _<_};
 ghost use lib.ListN.{length};
 ghost use mathlib.Core.Bool.{cond};
-ghost use mathlib.Core.List.{map, List·Memᴰ};
+ghost use mathlib.Core.List.{map};
 ghost use mathlib.Core.Path.{_≡_};
 use crate::limits::are_lawful;
 use crate::limits::cap_of;
@@ -85,27 +84,5 @@ impl Table {
         ensures { λ r. ⌜ r ≡ capOf (contents (now (self .entry)) .edges) ⌝ }
     {
         self.cap
-    }
-
-    // The parts with their limits, which the code below rests on.
-    fn few_names(&self) -> &[Name]
-        ensures count { λ r. ⌜ length (now r) ≡ length (contents (now (self .entry)) .names) ⌝ }
-        ensures few { λ r. ⌜ length (now r) ≤ 8 ⌝ }
-    {
-        self.names.as_slice()
-    }
-
-    pub(crate) fn few_places(&self) -> &[Place]
-        ensures value { λ r. ⌜ now r ≡ contents (now (self .entry)) .places ⌝ }
-        ensures few { λ r. ⌜ length (now r) ≤ 32 ⌝ }
-    {
-        self.places.as_slice()
-    }
-
-    pub(crate) fn small_edges(&self) -> &[Edge]
-        ensures value { λ r. ⌜ now r ≡ contents (now (self .entry)) .edges ⌝ }
-        ensures ends { λ r. ⌜ ((e : Edge) → List·Memᴰ e (now r) → (e .source < 32) × (e .target < 32)) ⌝ }
-    {
-        self.edges.as_slice()
     }
 }

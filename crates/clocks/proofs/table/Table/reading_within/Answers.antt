@@ -9,4 +9,4 @@ pub returns : need.returns
 returns c =
     let t = contents (c .args .self .now) in
     reads-here (capOf (t .edges)) (length (t .names)) (c .args .word .now) (c .args .position) _ (kept (c .args .self .now) .events) (c .pre)
-      (c .cap .result) _ _ (c .cap .ensures) (c .walked .ensures .reading) (c .advanced .ensures)
+    (c .cap .result) _ _ (c .cap .ensures) (c .walked .ensures .reading) (c .advanced .ensures)

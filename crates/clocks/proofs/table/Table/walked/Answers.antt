@@ -12,7 +12,7 @@ pub loop-pair-again : need.loop-pair-again
 loop-pair-again c =
     let t = contents (c .args .self .now) in
     walks-on t (capOf (t .edges)) (c .args .word .now) (c .loop-pair .pair-index) _ _ _ (c .loop-pair-test .taken) (c .loop-pair .inv)
-      _ _ (c .stepped-front .ensures .set) (c .stepped-front .ensures .reading)
+    _ _ (c .stepped-front .ensures .set) (c .stepped-front .ensures .reading)
 
 pub returns : need.returns
 returns c =
