@@ -1,7 +1,7 @@
 -- `firstOf` gives the first place at which a question holds, and no other answer is `First`. Assumes nothing.
 use Prim.Native.Nat.{ℕ, zero, suc, _<_}
 use mathlib.Core.Bool.{Bool, true, false, cond, true≢false}
-use mathlib.Core.List.{List, [], _∷_}
+use mathlib.Core.List.{List, [], _∷_, map}
 use mathlib.Core.Path.{_≡_, refl, sym, ap, subst, _∙_}
 use native.Mathlib.Omega.{arith}
 use lib.ListN.{length, getD}
@@ -74,3 +74,7 @@ module _ {A : Type 0} (f : A → Bool) where
 
   pub none-from-fails : (xs : List A) → ((k : ℕ) (d : A) → k < length xs → f (getD xs k d) ≡ false) → firstOf f xs ≡ None
   none-from-fails xs h = sym (first-is-firstOf xs None h)
+
+pub firstOf-map : {X Y : Type 0} (f : Y → Bool) (g : X → Y) (xs : List X) → firstOf f (map g xs) ≡ firstOf (λ x. f (g x)) xs
+firstOf-map f g [] = refl
+firstOf-map f g (x ∷ xs) = ap (λ r. cond (f (g x)) (Some 0) (mapped suc r)) (firstOf-map f g xs)

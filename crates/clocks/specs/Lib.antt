@@ -1,6 +1,4 @@
 pub mod Search
 pub mod Cells
-pub mod Lawful
-pub mod Forms
-pub mod Held
-pub mod Roles
+pub mod Letters
+pub mod Texts

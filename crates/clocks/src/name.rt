@@ -1,4 +1,4 @@
-ghost use Rattle.clocks.specs.Lawful.{lawfulName};
+ghost use Rattle.clocks.specs.Letters.{lawfulName};
 ghost use Prim.Native.Nat.{_≤_};
 ghost use lib.ListN.{take};
 ghost use mathlib.Core.Bool.{true};

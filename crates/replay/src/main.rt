@@ -1,7 +1,7 @@
 // Replays words over a part: the reading at each pair, and whether the word is a behaviour of the part.
 use clocks::name::Name;
 use clocks::reading::Reading;
-use clocks::table::Table;
+use tables::table::Table;
 use meaning::values::Bound;
 use meaning::values::Edge;
 use meaning::values::Pair;

@@ -1,5 +1,5 @@
-ghost use Rattle.clocks.specs.Forms.{text};
-ghost use Rattle.clocks.specs.Lawful.{lawfulName, letter, every};
+ghost use Rattle.clocks.specs.Texts.{text};
+ghost use Rattle.clocks.specs.Letters.{lawfulName, letter, every};
 ghost use Rattle.std.specs.Options.{mapped};
 ghost use Rattle.std.specs.Orderings.{Decides};
 ghost use Rattle.std.specs.declared.option.Option.the-variants.{Some, None};

@@ -2,7 +2,7 @@ use native.Mathlib.Omega.{arith}
 use mathlib.Core.Bool.{true}
 use mathlib.Core.Path.{_≡_, ap, _∙_}
 use lib.ListN.{length, take}
-use Rattle.clocks.specs.Lawful.{lawfulName}
+use Rattle.clocks.specs.Letters.{lawfulName}
 use Rattle.clocks.proofs.Names.{copied-more, copied-all, name-is-lawful, name-some}
 use Rattle.clocks.proofs.name.Name.new.Needs as need
 use Rattle.clocks.proofs.name.Name.new.Needs.{After-loop-i}

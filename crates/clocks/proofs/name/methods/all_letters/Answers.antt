@@ -1,5 +1,5 @@
 use native.Mathlib.Omega.{arith}
-use Rattle.clocks.specs.Lawful.{letter}
+use Rattle.clocks.specs.Letters.{letter}
 use Rattle.clocks.proofs.Every.{every-more, every-fails, every-all}
 use Rattle.clocks.proofs.name.methods.all_letters.Needs as need
 

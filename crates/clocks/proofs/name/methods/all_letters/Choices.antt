@@ -1,6 +1,6 @@
 use mathlib.Core.Path.{_≡_}
 use lib.ListN.{drop}
-use Rattle.clocks.specs.Lawful.{letter, every}
+use Rattle.clocks.specs.Letters.{letter, every}
 use Rattle.clocks.proofs.name.methods.all_letters.Given as given
 
 abbrev pub Inv-loop-b : given.InvT-loop-b

@@ -1,7 +1,0 @@
-use mathlib.Core.Path.{_≡_}
-use lib.ListN.{drop}
-use Rattle.clocks.specs.Lawful.{every, lawfulEdge}
-use Rattle.clocks.proofs.limits.lawful_edges.Given as given
-
-abbrev pub Inv-loop-edge : given.InvT-loop-edge
-Inv-loop-edge l = every (lawfulEdge (l .events) (l .places)) (drop (l .edge-index) (l .edges)) ≡ every (lawfulEdge (l .events) (l .places)) (l .edges)

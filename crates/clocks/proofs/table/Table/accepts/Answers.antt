@@ -1,7 +1,0 @@
-use Rattle.clocks.specs.Held.{contents}
-use Rattle.clocks.proofs.Held.{fair}
-use Rattle.clocks.proofs.Runs.{word-decides}
-use Rattle.clocks.proofs.table.Table.accepts.Needs as need
-
-pub returns : need.returns
-returns c = word-decides (contents (c .args .self .now)) (fair (c .args .self .now)) (c .args .word .now) _ _ (c .walked .ensures .set) (c .finals .ensures)

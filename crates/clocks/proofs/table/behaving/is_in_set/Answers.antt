@@ -1,6 +1,0 @@
-use mathlib.Core.Path.{_≡_}
-use Rattle.clocks.proofs.Masks.{bit-is-in-set}
-use Rattle.clocks.proofs.table.behaving.is_in_set.Needs as need
-
-pub returns : need.returns
-returns c = bit-is-in-set (c .args .set) (c .args .place)

@@ -1,9 +1,0 @@
--- What names and tables hold, as the definitions speak of it.
-use mathlib.Core.List.{List}
-use Rattle.std.specs.Of.Vec.{vec-items}
-use Rattle.meaning.specs.Tables.{Contents}
-use Rattle.clocks.specs.declared.table.Table.{Table}
-use Rattle.clocks.specs.Forms.{form}
-
-abbrev pub contents : Table → Contents
-contents t = form (t .tick) (vec-items (t .names)) (vec-items (t .places)) (vec-items (t .edges))

@@ -1,9 +1,0 @@
--- Which places play a role.
-use mathlib.Core.Bool.{Bool}
-use Rattle.meaning.specs.declared.values.Place.{Place}
-use Rattle.clocks.specs.declared.table.roles.Role.{Role}
-use Rattle.clocks.specs.declared.table.roles.Role.the-variants.{Start, Accepting}
-
-abbrev pub plays : Role → Place → Bool
-plays Start p = p .start
-plays Accepting p = p .accepting

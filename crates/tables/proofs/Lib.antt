@@ -1,0 +1,5 @@
+pub mod Bounds
+pub mod Lawfulness
+pub mod Held
+pub mod Masks
+pub mod Runs

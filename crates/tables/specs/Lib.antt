@@ -1,0 +1,4 @@
+pub mod Lawful
+pub mod Forms
+pub mod Held
+pub mod Roles
