@@ -1,7 +1,6 @@
 // Replays words over a part: the reading at each pair, and whether the word is a behaviour of the part.
 use clocks::name::Name;
 use clocks::reading::Reading;
-use tables::table::Table;
 use meaning::values::Bound;
 use meaning::values::Edge;
 use meaning::values::Pair;
@@ -9,6 +8,7 @@ use meaning::values::Place;
 use std::alloc::AllocError;
 use std::alloc::Global;
 use std::error::AnyError;
+use tables::table::Table;
 
 const OPEN: u8 = 0;
 

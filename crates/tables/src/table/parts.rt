@@ -4,8 +4,8 @@ ghost use Prim.Native.Nat.{_≤_, _<_};
 ghost use lib.ListN.{length};
 ghost use mathlib.Core.List.{List·Memᴰ};
 ghost use mathlib.Core.Path.{_≡_};
-use clocks::name::Name;
 use crate::table::Table;
+use clocks::name::Name;
 use meaning::values::Edge;
 use meaning::values::Place;
 
