@@ -1,4 +1,3 @@
-pub mod Every
 pub mod Names
 pub mod Cells
 pub mod Firsts

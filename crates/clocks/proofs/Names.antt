@@ -14,9 +14,10 @@ use Rattle.std.specs.Orderings.{Decides}
 use Rattle.std.specs.shelf.Text.{sameBytes}
 use Rattle.std.specs.declared.option.Option.{Option}
 use Rattle.std.specs.declared.option.Option.the-variants.{Some, None}
+use Rattle.texts.specs.Tokens.{nameWord}
 use Rattle.clocks.specs.declared.name.Name.{Name}
 use Rattle.clocks.specs.Texts.{text}
-use Rattle.clocks.specs.Letters.{letter, every, lawfulName}
+use Rattle.clocks.specs.Letters.{lawfulName}
 
 pub copied-more : (bytes letters : List ℕ) (i : ℕ) → i < length bytes → length bytes ≤ 12
     → (take i letters ≡ take i bytes) × (length letters ≡ 12)
@@ -31,9 +32,8 @@ copied-all bytes letters i past within so =
     let e : length bytes ≡ i = omega arith in
     ap (λ k. take k letters) e ∙ so ∙ take-all i bytes past
 
-pub name-is-lawful : (bytes : List ℕ) → (length bytes ≡ 0 → ⊥) → length bytes ≤ 12 → true ≡ every letter bytes → lawfulName bytes ≡ true
-name-is-lawful bytes some short letters =
-    and-from _ _ (and-from _ _ (le-leb 1 (length bytes) (omega arith)) (le-leb (length bytes) 12 short)) (sym letters)
+pub name-is-lawful : (bytes : List ℕ) → length bytes ≤ 12 → true ≡ nameWord bytes → lawfulName bytes ≡ true
+name-is-lawful bytes short named = and-from _ _ (sym named) (le-leb (length bytes) 12 short)
 
 pub name-some : (bytes taken : List ℕ) → taken ≡ bytes → lawfulName bytes ≡ true → Some taken ≡ cond (lawfulName bytes) (Some bytes) None
 name-some bytes taken e h = ap Some e ∙ sym (cond-true _ _ _ h)

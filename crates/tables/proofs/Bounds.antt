@@ -8,7 +8,7 @@ use lib.Dec.{ltb}
 use lib.ListN.{length, getD, drop}
 use Rattle.std.proofs.shelf.Lists.{at-drop-more, at-drop-all}
 use Rattle.meaning.specs.declared.values.Bound.{Bound}
-use Rattle.clocks.proofs.Every.{goes-on, settles}
+use Rattle.texts.proofs.Lists.{goes-on, settles}
 use Rattle.tables.specs.Lawful.{lawfulBound, isAny, lawfulBounds}
 
 module _ (n : ℕ) (bs : List Bound) (i : ℕ) (r : Bool) where

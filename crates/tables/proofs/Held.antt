@@ -16,7 +16,7 @@ use Rattle.meaning.specs.Tables.{Contents}
 use Rattle.meaning.proofs.Behaviours.{Fair}
 use Rattle.tables.specs.declared.table.Table.{Table}
 use Rattle.tables.specs.Held.{contents}
-use Rattle.clocks.specs.Letters.{every}
+use Rattle.texts.specs.Numbers.{every}
 use Rattle.tables.specs.Lawful.{lawfulBound, isAny, lawfulBounds, lawfulEdge, lawfulNames, lawful, isBlank, standing}
 
 every-member : {X : Type 0} (f : X → Bool) (xs : List X) → every f xs ≡ true → (x : X) → List·Memᴰ x xs → f x ≡ true

@@ -17,7 +17,8 @@ use Rattle.clocks.specs.declared.name.Name.{Name}
 use Rattle.clocks.specs.Search.{firstOf}
 use Rattle.clocks.specs.Texts.{text}
 use Rattle.tables.specs.Forms.{form}
-use Rattle.clocks.specs.Letters.{every, lawfulName}
+use Rattle.texts.specs.Numbers.{every}
+use Rattle.clocks.specs.Letters.{lawfulName}
 use Rattle.clocks.proofs.Firsts.{firstOf-map}
 use Rattle.tables.specs.Lawful.{different, lawfulNames, lawfulEdges, lawful}
 

@@ -10,7 +10,8 @@ use Rattle.meaning.specs.declared.values.Bound.{Bound}
 use Rattle.meaning.specs.declared.values.Bound.the-variants.{Any, Never, AtLeast, Between}
 use Rattle.meaning.specs.declared.values.Edge.{Edge}
 use Rattle.meaning.specs.Tables.{Contents}
-use Rattle.clocks.specs.Letters.{every, lawfulName}
+use Rattle.texts.specs.Numbers.{every}
+use Rattle.clocks.specs.Letters.{lawfulName}
 use Rattle.clocks.specs.Search.{firstOf}
 
 -- No name stands again later in the list.

@@ -1,11 +1,12 @@
 ghost use Rattle.clocks.specs.Texts.{text};
-ghost use Rattle.clocks.specs.Letters.{lawfulName, letter, every};
+ghost use Rattle.clocks.specs.Letters.{lawfulName};
 ghost use Rattle.std.specs.Options.{mapped};
 ghost use Rattle.std.specs.Orderings.{Decides};
 ghost use Rattle.std.specs.declared.option.Option.the-variants.{Some, None};
 ghost use mathlib.Core.Bool.{cond};
 ghost use mathlib.Core.Path.{_≡_};
 use super::Name;
+use texts::tokens::is_name;
 
 impl Name {
     // The name with these letters; none exactly when they are not 1 to 12 letters from a to z.
@@ -13,7 +14,7 @@ impl Name {
         ensures { λ r. ⌜ mapped text r ≡ cond (lawfulName (now (bytes .entry))) (Some (now (bytes .entry))) None ⌝ }
     {
         let size = bytes.len();
-        if size == 0 || size > 12 || !all_letters(bytes) {
+        if size > 12 || !is_name(bytes) {
             return None;
         }
         let mut letters = [b'a'; 12];
@@ -28,23 +29,6 @@ impl Name {
     {
         &self.letters[0..self.size]
     }
-}
-
-fn is_letter(b: u8) -> bool
-    ensures { λ r. ⌜ r ≡ letter b ⌝ }
-{
-    matches!(b, b'a'..=b'z')
-}
-
-fn all_letters(bytes: &[u8]) -> bool
-    ensures { λ r. ⌜ r ≡ every letter (now (bytes .entry)) ⌝ }
-{
-    for b in bytes {
-        if !is_letter(*b) {
-            return false;
-        }
-    }
-    true
 }
 
 fn same_bytes(one: &[u8], other: &[u8]) -> bool

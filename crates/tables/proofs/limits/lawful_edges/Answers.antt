@@ -3,7 +3,7 @@ use mathlib.Core.Path.{ap, sym, _∙_}
 use lib.ListN.{length}
 use Rattle.std.proofs.shelf.Tests.{le-leb, and-right, and-from}
 use Rattle.tables.specs.Lawful.{lawfulEdge}
-use Rattle.clocks.proofs.Every.{every-more, every-fails, every-all}
+use Rattle.texts.proofs.Lists.{every-more, every-fails, every-all}
 use Rattle.tables.proofs.limits.lawful_edges.Needs as need
 
 pub returns-then-not-lawful-edge : need.returns-then-not-lawful-edge

@@ -1,6 +1,6 @@
 use mathlib.Core.Path.{_≡_}
 use lib.ListN.{drop}
-use Rattle.clocks.specs.Letters.{every}
+use Rattle.texts.specs.Numbers.{every}
 use Rattle.tables.specs.Lawful.{lawfulEdge}
 use Rattle.tables.proofs.limits.lawful_edges.Given as given
 

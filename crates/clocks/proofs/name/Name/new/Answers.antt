@@ -11,7 +11,7 @@ copied : (c : After-loop-i) → take (length (c .args .bytes .now)) (c .loop-i .
 copied c = copied-all _ _ (c .loop-i .i) (c .loop-i-test .left) (c .loop-i .kept .i-end) (c .loop-i .inv .0)
 
 lawful : (c : After-loop-i) → lawfulName (c .args .bytes .now) ≡ true
-lawful c = name-is-lawful _ (c .if-size-eq0 .left) (omega arith) (c .if-not-all-letters .ensures tt)
+lawful c = name-is-lawful _ (c .if-size-gt12 .left) (c .if-not-is-name .ensures tt)
 
 pub loop-i-again : need.loop-i-again
 loop-i-again c = copied-more _ _ (c .loop-i .i) (c .loop-i-test .taken) (omega arith) (c .loop-i .inv)

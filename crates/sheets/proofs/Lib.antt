@@ -1,0 +1,5 @@
+pub mod Steps
+pub mod Columns
+pub mod TableRead
+pub mod Clean
+pub mod TableWritten

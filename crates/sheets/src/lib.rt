@@ -1,0 +1,2 @@
+// Texts of tables, distances and entries.
+pub mod stage;

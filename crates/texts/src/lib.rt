@@ -1,0 +1,6 @@
+pub mod bytes;
+pub mod fault;
+pub mod lines;
+pub mod numbers;
+pub mod tokens;
+pub mod words;
