@@ -25,13 +25,9 @@ use Rattle.rows.specs.declared.cell.Column.the-variants.{YesOrNo}
 use Rattle.rows.specs.declared.cell.RowKind.{RowKind}
 use Rattle.rows.specs.declared.cell.WordFault.{WordFault}
 use Rattle.rows.specs.declared.cell.WordFault.the-variants.{Misfit}
-use Rattle.rows.specs.Rows.{numberIn, andThen, cellOf, cellsOf, columns, wordStop, rowOf, padded, rowResult}
+use Rattle.rows.specs.Rows.{wordsFrom, numberIn, andThen, cellOf, cellsOf, columns, wordStop, rowOf, padded, rowResult}
 
 -- ---- words
-
--- the words from a place on; past the line's end there are none
-abbrev pub wordsFrom : List ℕ → ℕ → List (List ℕ)
-wordsFrom line from = cond (leb from (length line)) (words (drop from line)) []
 
 pub words-from-start : (line : List ℕ) → wordsFrom line 0 ≡ words line
 words-from-start line = cond-true _ _ _ (le-leb 0 (length line) (omega arith))

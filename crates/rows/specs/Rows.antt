@@ -4,7 +4,7 @@ use mathlib.Core.Bool.{Bool, true, false, not, _&&_, cond}
 use mathlib.Core.List.{List, [], _∷_, _++_, map}
 use lib.Chars.{codes}
 use lib.Dec.{eqb, leb}
-use lib.ListN.{length, getD, replicate}
+use lib.ListN.{length, getD, drop, replicate}
 use Rattle.std.specs.Written.{decimal}
 use Rattle.std.specs.declared.option.Option.{Option}
 use Rattle.std.specs.declared.option.Option.the-variants.{Some, None}
@@ -116,6 +116,10 @@ columns (Place k) = Within k k ∷ YesOrNo ∷ YesOrNo ∷ []
 columns (Edge most n) = Within 0 most ∷ Within 0 most ∷ EventName ∷ replicate (min n 8) Limit
 columns Distance = EventName ∷ EventName ∷ Within 0 250 ∷ NotBelow 250 ∷ []
 columns (Claim n) = Within 0 9999999999 ∷ Within 0 9999999999 ∷ replicate (min n 8) NumberOrNone
+
+-- the words of a line from a place on; past the line's end there are none
+abbrev pub wordsFrom : List ℕ → ℕ → List (List ℕ)
+wordsFrom line from = cond (leb from (length line)) (words (drop from line)) []
 
 abbrev pub noSpace : ℕ → Bool
 noSpace b = not (eqb b 32)

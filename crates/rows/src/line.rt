@@ -17,7 +17,7 @@ use clocks::name::Name;
 use texts::words::word_count;
 
 // The place of the first space at or after `from`, or the line's length if there is none.
-fn word_stop(line: &[u8], from: usize) -> usize
+pub fn word_stop(line: &[u8], from: usize) -> usize
     ensures value { λ r. ⌜ r ≡ wordStop (now (line .entry)) from ⌝ }
     ensures within { λ r. ⌜ r ≤ length (now (line .entry)) ⌝ }
     ensures after { λ r. ⌜ min from (length (now (line .entry))) ≤ r ⌝ }

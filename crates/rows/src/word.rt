@@ -36,7 +36,8 @@ fn any_number(digits: &[u8]) -> Result<Cell, WordFault>
     }
 }
 
-fn is_word(word: &[u8], sought: &[u8]) -> bool
+// Whether the word is the sought one.
+pub fn is_word(word: &[u8], sought: &[u8]) -> bool
     ensures { λ r. ⌜ r ≡ sameBytes (now (word .entry)) (now (sought .entry)) ⌝ }
 {
     *word == *sought

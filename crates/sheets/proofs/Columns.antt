@@ -18,7 +18,7 @@ use Rattle.rows.specs.declared.cell.Column.the-variants.{Within, YesOrNo, Event
 use Rattle.rows.specs.declared.cell.RowKind.the-variants.{Tick, Place, Edge}
 
 module _ (names : List (List ℕ)) (before : ℕ) where
-  within-is : (least most : ℕ) (x : Cell) → suits (Within least most) names before x ≡ true → (n : ℕ) × (x ≡ Number n) × (least ≤ n) × (n ≤ most)
+  pub within-is : (least most : ℕ) (x : Cell) → suits (Within least most) names before x ≡ true → (n : ℕ) × (x ≡ Number n) × (least ≤ n) × (n ≤ most)
   within-is least most (Number n) h =
       let both = and-parts (leb least n && leb n most) _ h in
       let ends = and-parts (leb least n) (leb n most) (both .0) in
@@ -35,7 +35,7 @@ module _ (names : List (List ℕ)) (before : ℕ) where
   flag-is (Event i) h = absurd (false≢true h)
   flag-is (Bounded b) h = absurd (false≢true h)
 
-  event-is : (x : Cell) → suits EventName names before x ≡ true → (i : ℕ) × (x ≡ Event i) × (i < length names)
+  pub event-is : (x : Cell) → suits EventName names before x ≡ true → (i : ℕ) × (x ≡ Event i) × (i < length names)
   event-is (Number n) h = absurd (false≢true h)
   event-is Absent h = absurd (false≢true h)
   event-is (Flag b) h = absurd (false≢true h)
@@ -50,32 +50,34 @@ module _ (names : List (List ℕ)) (before : ℕ) where
   limit-is (Bounded b) h = (refl, h)
 
 -- a row that has one cell, and then others
-split : (c : Column) (cs : List Column) (names : List (List ℕ)) (before : ℕ) (cells : List Cell) → suitsAll (c ∷ cs) names before cells ≡ true
+pub split : (c : Column) (cs : List Column) (names : List (List ℕ)) (before : ℕ) (cells : List Cell) → suitsAll (c ∷ cs) names before cells ≡ true
     → (x : Cell) × (rest : List Cell) × (cells ≡ x ∷ rest) × (suits c names before x ≡ true) × (suitsAll cs names (numberIn x) rest ≡ true)
 split c cs names before [] h = absurd (false≢true h)
 split c cs names before (x ∷ rest) h = let both = and-parts (suits c names before x) _ h in (x, rest, refl, both .0, both .1)
 
-none-left : (names : List (List ℕ)) (before : ℕ) (cells : List Cell) → suitsAll [] names before cells ≡ true → cells ≡ []
+pub none-left : (names : List (List ℕ)) (before : ℕ) (cells : List Cell) → suitsAll [] names before cells ≡ true → cells ≡ []
 none-left names before [] h = refl
 none-left names before (x ∷ cells) h = absurd (false≢true h)
 
--- as many bounds as there are events
-pub record Limits (n : ℕ) (cells : List Cell) : Type 0 where
-  pub bounds : List Bound
-  pub cells-are : cells ≡ map Bounded bounds
-  pub count : length bounds ≡ n
-  pub lawful : every lawfulBound bounds ≡ true
+-- as many values as there are events, each in a cell of its own
+pub record Alike {X : Type 0} (wrap : X → Cell) (good : X → Bool) (n : ℕ) (cells : List Cell) : Type 0 where
+  pub values : List X
+  pub cells-are : cells ≡ map wrap values
+  pub count : length values ≡ n
+  pub lawful : every good values ≡ true
 
-limits-are : (n : ℕ) (names : List (List ℕ)) (before : ℕ) (cells : List Cell) → suitsAll (replicate n Limit) names before cells ≡ true → Limits n cells
-limits-are zero names before cells h =
-    record { bounds = []; cells-are = none-left names before cells h; count = refl; lawful = refl }
-limits-are (suc n) names before cells h =
-    let parts = split Limit (replicate n Limit) names before cells h in
+pub alike-are : {X : Type 0} (wrap : X → Cell) (good : X → Bool) (c : Column) (value : Cell → X)
+    → ((names : List (List ℕ)) (before : ℕ) (x : Cell) → suits c names before x ≡ true → (x ≡ wrap (value x)) × (good (value x) ≡ true))
+    → (n : ℕ) (names : List (List ℕ)) (before : ℕ) (cells : List Cell) → suitsAll (replicate n c) names before cells ≡ true → Alike wrap good n cells
+alike-are wrap good c value is zero names before cells h =
+    record { values = []; cells-are = none-left names before cells h; count = refl; lawful = refl }
+alike-are wrap good c value is (suc n) names before cells h =
+    let parts = split c (replicate n c) names before cells h in
     let x = parts .0 in
-    let here = limit-is names before x (parts .3) in
-    let rest = limits-are n names (numberIn x) (parts .1) (parts .4) in
+    let here = is names before x (parts .3) in
+    let rest = alike-are wrap good c value is n names (numberIn x) (parts .1) (parts .4) in
     record {
-      bounds = boundIn x ∷ rest .bounds;
+      values = value x ∷ rest .values;
       cells-are = parts .2 ∙ (λ i. here .0 i ∷ rest .cells-are i);
       count = ap suc (rest .count);
       lawful = and-from _ _ (here .1) (rest .lawful);
@@ -122,12 +124,12 @@ edge-row most n names cells h =
     let t = within-is names (numberIn (one .0)) 0 most (two .0) (two .3) in
     let three = split EventName (replicate (min n 8) Limit) names (numberIn (two .0)) (two .1) (two .4) in
     let e = event-is names (numberIn (two .0)) (three .0) (three .3) in
-    let bs = limits-are (min n 8) names (numberIn (three .0)) (three .1) (three .4) in
+    let bs = alike-are Bounded lawfulBound Limit boundIn limit-is (min n 8) names (numberIn (three .0)) (three .1) (three .4) in
     record {
       source = s .0;
       target = t .0;
       event = e .0;
-      bounds = bs .bounds;
+      bounds = bs .values;
       cells-are = one .2 ∙ (λ i. s .1 i ∷ (two .2 ∙ (λ j. t .1 j ∷ (three .2 ∙ (λ m. e .1 m ∷ bs .cells-are m)) j)) i);
       from = s .3;
       to = t .3;

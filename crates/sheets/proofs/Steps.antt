@@ -8,15 +8,19 @@ use mathlib.Core.Path.{_≡_, refl, sym, ap, subst, _∙_}
 use lib.Dec.{eqb, leb, ltb}
 use lib.ListN.{length}
 use Rattle.std.proofs.shelf.Tests.{eqb-true, leb-false, ltb-false, and-parts, and-from, not-false, false≢true, cases-bool, lt-leb, le-ltb, lt-ltb, ltb-true, and-left, ne-eqb}
+use Rattle.std.specs.declared.option.Option.{Option}
+use Rattle.std.specs.declared.option.Option.the-variants.{Some, None}
 use Rattle.std.specs.declared.result.Result.{Result}
 use Rattle.std.specs.declared.result.Result.the-variants.{Ok, Err}
 use Rattle.texts.specs.Lines.{spaced}
-use Rattle.rows.specs.Rows.{andThen, rowOf}
+use Rattle.rows.specs.Rows.{andThen, rowOf, rowResult, padded}
+use Rattle.rows.specs.declared.cell.Row.{Row}
 use Rattle.rows.proofs.Outcomes.{never-ok, same-from-ok}
 use Rattle.rows.specs.declared.cell.Cell.{Cell}
 use Rattle.rows.specs.declared.cell.RowKind.{RowKind}
 use Rattle.rows.specs.declared.cell.WordFault.{WordFault}
 use Rattle.rows.specs.declared.cell.WordFault.the-variants.{Misfit, OutOfRange}
+use Rattle.sheets.specs.Faults.{Fails, lineNumber, rowFault}
 use Rattle.sheets.specs.Walk.{Refusal, Line, Limits, empty, misspaced, lacksSheet, headStep, rowStep, rowGives, isNil, lineHere, atLine, walk}
 
 -- a test that would refuse failed
@@ -130,3 +134,139 @@ walk-keeps {S} step whole P keeps (l ∷ ls) before s t k p h =
         → (r : Result S ℕ) → step s (lineHere whole l ls) ≡ r → andThen (atLine k r) (λ next. walk step whole next (suc k) ls) ≡ Ok t → P t (before ++ (l ∷ ls))
     go on (Ok u) e h′ = subst (P t) (append-assoc before (l ∷ []) ls) (on u e h′)
     go on (Err n) e h′ = never-ok _ t h′
+
+-- ---- as the code judges a row
+
+module _ (limits : Limits) (count : ℕ) (kind : RowKind) (names : List (List ℕ)) (l : Line)
+    (open′ : (empty (l .bytes) && ltb 0 (limits .more)) ≡ false) (fine : misspaced l ≡ false) (whole : lacksSheet (limits .more) l ≡ false) (room : count < limits .most) where
+  pub row-judged : {S : Type 0} (next : List Cell → S) (closed : S) → rowStep limits count kind names l next closed ≡ rowGives (rowOf kind names (l .bytes)) next
+  row-judged next closed =
+      let few : leb (limits .most) count ≡ false = lt-leb (limits .most) count room in
+      λ i. cond (open′ i) (cond (l .last) (Err 4) (cond (ltb count (limits .least)) (Err 7) (Ok closed)))
+      (cond (fine i) (Err 3) (cond (whole i) (Err 4) (cond (few i) (Err 7) (rowGives (rowOf kind names (l .bytes)) next))))
+
+-- what the row reader answered, and the row that it gave
+pub row-given : {S : Type 0} (next : List Cell → S) (r : Result (List Cell) WordFault) (row : Row) → Ok row ≡ rowResult r → (S′ : List Cell → S) → ((cells : List Cell) → next cells ≡ S′ (padded cells))
+    → rowGives r next ≡ Ok (S′ (row .cells))
+row-given next (Ok cells) row h S′ same =
+    let e : row ≡ record { cells = padded cells } = cc in
+    ap Ok (same cells ∙ ap (λ x. S′ (x .cells)) (sym e))
+row-given next (Err e) row h S′ same = absurd (let z : _≡_ {A = ℕ} 0 1 = cc in omega arith)
+
+pub row-refused : {S : Type 0} (next : List Cell → S) (r : Result (List Cell) WordFault) (e : WordFault) → Err e ≡ rowResult r → Fails (rowGives r next) (lineNumber (rowFault e))
+row-refused next (Ok cells) e h = absurd (let z : _≡_ {A = ℕ} 0 1 = cc in omega arith)
+row-refused next (Err f) Misfit h = let same : f ≡ Misfit = cc in ap (λ x. rowGives (Err x) next) same
+row-refused next (Err f) OutOfRange h = let same : f ≡ OutOfRange = cc in ap (λ x. rowGives (Err x) next) same
+
+-- ---- what the judgement of a row tells of every step that goes by it
+
+module _ (limits : Limits) (count : ℕ) (kind : RowKind) (names : List (List ℕ)) (l : Line) {S : Type 0} (next : List Cell → S) (closed : S) where
+  abbrev judgement : Result (Option (List Cell)) ℕ
+  judgement = rowStep limits count kind names l (λ cells. Some (padded cells)) None
+
+  abbrev step : Result S ℕ
+  step = rowStep limits count kind names l next closed
+
+  -- a taken row, with its cells
+  pub record RowRead (xs : List Cell) : Type 0 where
+    pub cells : List Cell
+    pub row : rowOf kind names (l .bytes) ≡ Ok cells
+    pub padding : padded cells ≡ xs
+    pub room : count < limits .most
+    pub goes : step ≡ Ok (next cells)
+
+  abbrev ending : {X : Type 0} → Bool → Bool → X → Result X ℕ
+  ending b c x = cond b (Err 4) (cond c (Err 7) (Ok x))
+
+  end-is : (b c : Bool) (s : Option (List Cell)) → ending b c None ≡ Ok s → (s ≡ None) × (ending b c closed ≡ Ok closed)
+  end-is true c s h = never-ok 4 s h
+  end-is false true s h = never-ok 7 s h
+  end-is false false s h = (sym (same-from-ok None s h), refl)
+
+  pub sheet-ended : judgement ≡ Ok None → step ≡ Ok closed
+  sheet-ended h = go (empty (l .bytes) && ltb 0 (limits .more)) refl h
+    where
+      gives : (r : Result (List Cell) WordFault) → rowGives r (λ cells. Some (padded cells)) ≡ Ok None → step ≡ Ok closed
+      gives (Ok cells) e = absurd (let z : _≡_ {A = ℕ} 0 1 = cc in omega arith)
+      gives (Err Misfit) e = never-ok _ _ e
+      gives (Err OutOfRange) e = never-ok _ _ e
+
+      go : (b : Bool) → (empty (l .bytes) && ltb 0 (limits .more)) ≡ b
+          → cond b (cond (l .last) (Err 4) (cond (ltb count (limits .least)) (Err 7) (Ok None)))
+          (cond (misspaced l) (Err 3) (cond (lacksSheet (limits .more) l) (Err 4) (cond (leb (limits .most) count) (Err 7) (rowGives (rowOf kind names (l .bytes)) (λ cells. Some (padded cells)))))) ≡ Ok None
+          → step ≡ Ok closed
+      go true e g =
+          ap (λ b. cond b (cond (l .last) (Err 4) (cond (ltb count (limits .least)) (Err 7) (Ok closed)))
+          (cond (misspaced l) (Err 3) (cond (lacksSheet (limits .more) l) (Err 4) (cond (leb (limits .most) count) (Err 7) (rowGives (rowOf kind names (l .bytes)) next))))) e
+          ∙ end-is (l .last) (ltb count (limits .least)) None g .1
+      go false e g =
+          let one = passed (misspaced l) 3 _ None g in
+          let two = passed (lacksSheet (limits .more) l) 4 _ None (one .1) in
+          let three = passed (leb (limits .most) count) 7 _ None (two .1) in
+          gives (rowOf kind names (l .bytes)) (three .1)
+
+  pub row-read : (xs : List Cell) → judgement ≡ Ok (Some xs) → RowRead xs
+  row-read xs h = go (empty (l .bytes) && ltb 0 (limits .more)) refl h
+    where
+      go : (b : Bool) → (empty (l .bytes) && ltb 0 (limits .more)) ≡ b
+          → cond b (cond (l .last) (Err 4) (cond (ltb count (limits .least)) (Err 7) (Ok None)))
+          (cond (misspaced l) (Err 3) (cond (lacksSheet (limits .more) l) (Err 4) (cond (leb (limits .most) count) (Err 7) (rowGives (rowOf kind names (l .bytes)) (λ cells. Some (padded cells)))))) ≡ Ok (Some xs)
+          → RowRead xs
+      go true e g = absurd (let none = end-is (l .last) (ltb count (limits .least)) (Some xs) g .0 in let z : _≡_ {A = ℕ} 0 1 = cc in omega arith)
+      go false e g =
+          let one = passed (misspaced l) 3 _ (Some xs) g in
+          let two = passed (lacksSheet (limits .more) l) 4 _ (Some xs) (one .1) in
+          let three = passed (leb (limits .most) count) 7 _ (Some xs) (two .1) in
+          let room = leb-false (limits .most) count (three .0) in
+          let four = row-of limits count kind names l (λ cells. Some (padded cells)) None (Some xs) (rowOf kind names (l .bytes)) (three .1) in
+          record {
+            cells = four .0;
+            row = four .1;
+            padding = (let same : padded (four .0) ≡ xs = (let e′ = four .2 in cc) in same);
+            room = room;
+            goes = row-judged limits count kind names l e (one .0) (two .0) room next closed ∙ ap (λ r. rowGives r next) (four .1);
+          }
+
+  pub row-fails : (o : Option ℕ) → Fails judgement o → Fails step o
+  row-fails None h = tt
+  row-fails (Some n) h = go (empty (l .bytes) && ltb 0 (limits .more)) h
+    where
+      ended : (b c : Bool) → ending {X = Option (List Cell)} b c None ≡ Err n → ending b c closed ≡ Err n
+      ended true c e = let s : 4 ≡ n = cc in ap Err s
+      ended false true e = let s : 7 ≡ n = cc in ap Err s
+      ended false false e = absurd (let z : _≡_ {A = ℕ} 0 1 = cc in omega arith)
+
+      row : (r : Result (List Cell) WordFault) → rowGives r (λ cells. Some (padded cells)) ≡ Err n → rowGives r next ≡ Err n
+      row (Ok cells) e = absurd (let z : _≡_ {A = ℕ} 0 1 = cc in omega arith)
+      row (Err Misfit) e = let s : 5 ≡ n = cc in ap Err s
+      row (Err OutOfRange) e = let s : 6 ≡ n = cc in ap Err s
+
+      test : (b : Bool) (k : ℕ) (d : Result (Option (List Cell)) ℕ) (d′ : Result S ℕ) → (d ≡ Err n → d′ ≡ Err n) → cond b (Err k) d ≡ Err n → cond b (Err k) d′ ≡ Err n
+      test true k d d′ on e = let s : k ≡ n = cc in ap Err s
+      test false k d d′ on e = on e
+
+      go : (b : Bool)
+          → cond b (cond (l .last) (Err 4) (cond (ltb count (limits .least)) (Err 7) (Ok None)))
+          (cond (misspaced l) (Err 3) (cond (lacksSheet (limits .more) l) (Err 4) (cond (leb (limits .most) count) (Err 7) (rowGives (rowOf kind names (l .bytes)) (λ cells. Some (padded cells)))))) ≡ Err n
+          → cond b (cond (l .last) (Err 4) (cond (ltb count (limits .least)) (Err 7) (Ok closed)))
+          (cond (misspaced l) (Err 3) (cond (lacksSheet (limits .more) l) (Err 4) (cond (leb (limits .most) count) (Err 7) (rowGives (rowOf kind names (l .bytes)) next)))) ≡ Err n
+      go true e = ended (l .last) (ltb count (limits .least)) e
+      go false e = test (misspaced l) 3 _ _ (test (lacksSheet (limits .more) l) 4 _ _ (test (leb (limits .most) count) 7 _ _ (row (rowOf kind names (l .bytes))))) e
+
+-- a head that is taken or refused is so whatever it leads to
+pub head-maps : {X S : Type 0} (more wrong : ℕ) (l : Line) (f : X → S) (x y : X) → headStep more wrong l x ≡ Ok y → headStep more wrong l (f x) ≡ Ok (f y)
+head-maps more wrong l f x y h =
+    let head = head-taken more wrong l x y h in
+    head-goes more wrong l (f x) (head .fine) (head .whole) (head .right) ∙ ap (λ z. Ok (f z)) (head .goes)
+
+pub head-fails : {X S : Type 0} (more wrong : ℕ) (l : Line) (x : X) (s : S) (o : Option ℕ) → Fails (headStep more wrong l x) o → Fails (headStep more wrong l s) o
+head-fails more wrong l x s None h = tt
+head-fails {X} {S} more wrong l x s (Some n) h = test (misspaced l) 3 _ _ (test (lacksSheet more l) 4 _ _ (last (eqb wrong 0))) h
+  where
+    last : (b : Bool) → _≡_ {A = Result X ℕ} (cond b (Ok x) (Err wrong)) (Err n) → _≡_ {A = Result S ℕ} (cond b (Ok s) (Err wrong)) (Err n)
+    last true e = absurd (let z : _≡_ {A = ℕ} 0 1 = cc in omega arith)
+    last false e = let same : wrong ≡ n = cc in ap Err same
+
+    test : (b : Bool) (k : ℕ) (d : Result X ℕ) (d′ : Result S ℕ) → (d ≡ Err n → d′ ≡ Err n) → cond b (Err k) d ≡ Err n → cond b (Err k) d′ ≡ Err n
+    test true k d d′ on e = let same : k ≡ n = cc in ap Err same
+    test false k d d′ on e = on e

@@ -1,5 +1,5 @@
 -- What is read of a table text is written so, and is lawful. Assumes nothing.
-use Prim.Native.Nat.{ℕ, zero, suc, _+_, _-_, _≤_, _<_, min}
+use Prim.Native.Nat.{ℕ, zero, suc, _+_, _-_, _≤_, min}
 use native.Mathlib.Omega.{arith}
 use mathlib.Core.Bool.{Bool, true, false, not, _&&_, _||_, cond}
 use mathlib.Core.List.{List, [], _∷_, _++_, map, append-assoc, append-nil}
@@ -9,40 +9,34 @@ use lib.Chars.{codes}
 use lib.Dec.{eqb, leb, ltb}
 use lib.ListN.{length, getD, take, drop, replicate}
 use Rattle.std.proofs.shelf.Equals.{sameBytes-decides}
-use Rattle.std.proofs.shelf.Lists.{map-push, length-push, length-append, length-replicate, length-map, take-at, nil-from-length}
-use Rattle.std.proofs.shelf.Tests.{and-parts, and-from, leb-true, le-leb, lt-ltb, le-ltb, eq-eqb, cond-true, cond-false, not-false, false≢true}
+use Rattle.std.proofs.shelf.Lists.{length-push, length-append, length-replicate, length-map, take-at, nil-from-length}
+use Rattle.std.proofs.shelf.Tests.{and-parts, and-from, leb-true, le-leb, lt-ltb, le-ltb, eq-eqb, cond-true, cond-false, false≢true}
 use Rattle.std.specs.shelf.Text.{sameBytes}
-use Rattle.std.specs.declared.option.Option.{Option}
-use Rattle.std.specs.declared.option.Option.the-variants.{Some, None}
-use Rattle.std.specs.declared.result.Result.{Result}
-use Rattle.std.specs.declared.result.Result.the-variants.{Ok, Err}
+use Rattle.std.specs.declared.result.Result.the-variants.{Ok}
 use Rattle.meaning.specs.declared.values.Bound.{Bound}
 use Rattle.meaning.specs.declared.values.Bound.the-variants.{Any}
 use Rattle.meaning.specs.declared.values.Place.{Place}
 use Rattle.meaning.specs.declared.values.Edge.{Edge}
 use Rattle.meaning.specs.Tables.{Contents}
-use Rattle.texts.specs.Lines.{words, unwords, unlines, lines, spaced, ended, badByte}
+use Rattle.texts.specs.Lines.{words, unwords, unlines, lines, ended}
 use Rattle.texts.specs.Numbers.{every}
-use Rattle.texts.proofs.Pieces.{unwords-of-words, unlines-of-lines, some-line}
+use Rattle.texts.proofs.Pieces.{unwords-of-words}
 use Rattle.clocks.specs.Letters.{lawfulName}
 use Rattle.tables.specs.Lawful.{different, lawfulBound, isAny, lawfulBounds, lawfulEdge, lawfulEdges, lawfulNames, lawful}
-use Rattle.rows.specs.Rows.{andThen, rowLine, numberIn, flagIn, eventIn, boundIn}
+use Rattle.rows.specs.Rows.{rowLine, numberIn, flagIn, eventIn, boundIn}
 use Rattle.rows.specs.declared.cell.Cell.{Cell}
 use Rattle.rows.specs.declared.cell.Cell.the-variants.{Number, Absent, Flag, Event, Bounded}
 use Rattle.rows.specs.declared.cell.RowKind.the-variants.{Tick, Place as Place′, Edge as Edge′}
-use Rattle.rows.proofs.Outcomes.{never-ok, same-from-ok}
 use Rattle.rows.proofs.Rows.{row-is-written}
 use Rattle.sheets.specs.declared.stage.Stage.{Stage}
 use Rattle.sheets.specs.declared.stage.Stage.the-variants.{TickHead, TickRows, PlaceHead, PlaceRows, EdgeHead, EdgeRows}
-use Rattle.sheets.specs.Walk.{Refusal, Line, Limits, empty, misspaced, lacksSheet, lineHere, atLine, walk, checked}
+use Rattle.sheets.specs.Walk.{Refusal, Line, Limits}
 use Rattle.sheets.specs.TableText.{Parts, at, withTick, withPlace, withNames, withEdge, headIs, namesWrong, edgeHeadWrong, placeFrom, edgeFrom, stepAt, tableStep, start, held, tickHead, placeHead, edgeHead, placeCells, placeLines, edgeCells, edgeLines, tableLines, tableText, readTable, tickLimits, placeLimits, edgeLimits}
-use Rattle.sheets.proofs.Steps.{head-taken, row-taken, walk-keeps}
-use Rattle.sheets.proofs.Columns.{tick-row, place-row, EdgeRow, edge-row}
+use Rattle.sheets.proofs.Steps.{head-taken, row-taken}
+use Rattle.sheets.proofs.Columns.{place-row, EdgeRow, edge-row}
+use Rattle.sheets.proofs.Taken.{every-push, map-back, head-is, rows-push, ended-when-fine, none-lacks, tickLines, Ticked, OneTick, one-tick, tick-head-is, tick-taken, taken-was-walked}
 
 -- ---- the lines that have been read, from what was read of them
-
-abbrev tickLines : List ℕ → List (List ℕ)
-tickLines ticks = map (λ n. rowLine [] (Number n ∷ [])) ticks
 
 abbrev front : Parts → List (List ℕ)
 front s = tickHead ∷ tickLines (s .ticks)
@@ -63,15 +57,6 @@ soFarAt EdgeRows s = (front s ++ middle s) ++ back s
 
 -- ---- what is kept of the parts, stage by stage
 
-abbrev Ticked : List ℕ → Type 0
-Ticked [] = Unit {0}
-Ticked (n ∷ []) = (1 ≤ n) × (n ≤ 60000)
-Ticked (n ∷ m ∷ ns) = ⊥
-
--- one tick, in range
-abbrev OneTick : List ℕ → Type 0
-OneTick ticks = Ticked ticks × (1 ≤ length ticks)
-
 abbrev GoodAt : Stage → Parts → Type 0
 GoodAt TickHead s = (s .ticks ≡ []) × (s .places ≡ []) × (s .edges ≡ [])
 GoodAt TickRows s = Ticked (s .ticks) × (s .places ≡ []) × (s .edges ≡ [])
@@ -87,17 +72,7 @@ pub record Sofar (s : Parts) (before : List (List ℕ)) : Type 0 where
   pub written : soFarAt (s .stage) s ≡ before
   pub good : GoodAt (s .stage) s
 
--- ---- heads
-
-head-is : (head line : List ℕ) → headIs head line ≡ 0 → line ≡ head
-head-is head line h = sameBytes-decides line head .0 (right (sameBytes line head) h)
-  where
-    right : (b : Bool) → _≡_ {A = ℕ} (cond b 0 4) 0 → b ≡ true
-    right true e = refl
-    right false e = absurd (omega (arith, e))
-
-push : {X : Type 0} (xs ys : List X) (y : X) → (xs ++ ys) ++ (y ∷ []) ≡ xs ++ (ys ++ (y ∷ []))
-push xs ys y = append-assoc xs ys (y ∷ [])
+-- ---- places, and the head of the edges
 
 places-push : (k : ℕ) (ps : List Place) (p : Place) → placeLines k (ps ++ (p ∷ [])) ≡ placeLines k ps ++ (rowLine [] (placeCells (k + length ps) p) ∷ [])
 places-push k [] p = let e : k ≡ k + 0 = omega arith in ap (λ m. rowLine [] (placeCells m p) ∷ []) e
@@ -133,8 +108,7 @@ edge-head-is (a ∷ b ∷ c ∷ names) h =
 -- ---- edges
 
 pub unbound : (bs : List Bound) → map boundIn (map Bounded bs) ≡ bs
-unbound [] = refl
-unbound (b ∷ bs) = ap (λ xs. b ∷ xs) (unbound bs)
+unbound bs = map-back Bounded boundIn (λ b. refl) bs
 
 -- the bounds of the events, and `any` up to eight
 lawful-bounds : (n i : ℕ) (bs : List Bound) (m : ℕ) → every lawfulBound bs ≡ true → n ≡ i + length bs → lawfulBounds n i (bs ++ replicate m Any) ≡ true
@@ -178,38 +152,19 @@ module _ (m n : ℕ) (names : List (List ℕ)) (cells : List Cell) (few : n ≤ 
 abbrev Kept : List (List ℕ) → Parts → Type 0
 Kept lines t = (soFarAt (t .stage) t ≡ lines) × GoodAt (t .stage) t
 
-every-push : {X : Type 0} (f : X → Bool) (xs : List X) (x : X) → every f xs ≡ true → f x ≡ true → every f (xs ++ (x ∷ [])) ≡ true
-every-push f [] x h g = and-from (f x) true g refl
-every-push f (y ∷ xs) x h g = let both = and-parts (f y) _ h in and-from (f y) _ (both .0) (every-push f xs x (both .1) g)
-
-ticked-push : (ticks : List ℕ) (n : ℕ) → length ticks < 1 → 1 ≤ n → n ≤ 60000 → Ticked (ticks ++ (n ∷ []))
-ticked-push [] n h low high = (low, high)
-ticked-push (m ∷ ticks) n h low high = absurd (omega arith)
-
 module _ (s t : Parts) (l : Line) where
   keeps-tick-head : GoodAt TickHead s → stepAt TickHead s l ≡ Ok t → Kept (l .bytes ∷ []) t
   keeps-tick-head good h =
       let head = head-taken 2 (headIs tickHead (l .bytes)) l (at s TickRows) t h in
-      subst (Kept (l .bytes ∷ [])) (head .goes) (
-        ap (λ ticks. tickHead ∷ tickLines ticks) (good .0) ∙ ap (λ x. x ∷ []) (sym (head-is tickHead (l .bytes) (head .right))),
-        (subst Ticked (sym (good .0)) tt, good .1, good .2),
-      )
+      let is = tick-head-is (s .ticks) (l .bytes) (good .0) (head .right) in
+      subst (Kept (l .bytes ∷ [])) (head .goes) (is .0, (is .1, good .1, good .2))
 
   keeps-tick-rows : GoodAt TickRows s → stepAt TickRows s l ≡ Ok t → Kept (front s ++ (l .bytes ∷ [])) t
   keeps-tick-rows good h = ⊎-elim
       (λ ended. subst (Kept (front s ++ (l .bytes ∷ []))) (ended .goes)
       (ap (λ x. front s ++ (x ∷ [])) (sym (nil-from-length (l .bytes) (ended .none))), ((good .0, ended .enough), good .1, good .2)))
-      (λ row.
-      let is = row-is-written Tick [] (l .bytes) (row .cells) (row .row) in
-      let n = tick-row (row .cells) (is .1) in
-      let value : numberIn (getD (row .cells) 0 Absent) ≡ n .0 = ap (λ cells. numberIn (getD cells 0 Absent)) (n .1) in
-      subst (Kept (front s ++ (l .bytes ∷ []))) (row .goes) (
-        ap (λ x. tickHead ∷ x) (map-push (λ m. rowLine [] (Number m ∷ [])) (s .ticks) (numberIn (getD (row .cells) 0 Absent)))
-            ∙ ap (λ m. front s ++ (rowLine [] (Number m ∷ []) ∷ [])) value
-            ∙ ap (λ x. front s ++ (x ∷ [])) (sym (is .0 ∙ ap (rowLine []) (n .1))),
-        (ticked-push (s .ticks) _ (row .room) (omega (arith, value, n .2)) (omega (arith, value, n .3)), good .1, good .2),
-      ))
-      (row-taken tickLimits (length (s .ticks)) Tick [] l (λ cells. withTick s (numberIn (getD cells 0 Absent))) (at s PlaceHead) t h)
+      (λ row. subst (Kept (front s ++ (l .bytes ∷ []))) (row .goes) (ap (λ x. tickHead ∷ x) (row .written), (row .good, good .1, good .2)))
+      (tick-taken tickLimits (s .ticks) l (withTick s) (at s PlaceHead) t refl h)
 
   keeps-place-head : GoodAt PlaceHead s → stepAt PlaceHead s l ≡ Ok t → Kept ((front s ++ ([] ∷ [])) ++ (l .bytes ∷ [])) t
   keeps-place-head good h =
@@ -271,9 +226,7 @@ module _ (s t : Parts) (l : Line) where
       let e = edgeFrom n (row .cells) in
       subst (Kept (((front s ++ middle s) ++ back s) ++ (l .bytes ∷ []))) (row .goes) (
         ap (λ x. (front s ++ middle s) ++ ([] ∷ edgeHead (s .names) ∷ x))
-            (map-push (λ x. rowLine (s .names) (edgeCells n x)) (s .edges) e
-            ∙ ap (λ c. edgeLines (s .names) (s .edges) ++ (rowLine (s .names) c ∷ [])) (edge-is-written m n (s .names) (row .cells) few (good .1 .0) refl edge)
-            ∙ ap (λ x. edgeLines (s .names) (s .edges) ++ (x ∷ [])) (sym (is .0)))
+            (rows-push (s .names) (edgeCells n) (s .edges) e (row .cells) (l .bytes) (is .0) (edge-is-written m n (s .names) (row .cells) few (good .1 .0) refl edge))
             ∙ sym (append-assoc (front s ++ middle s) (back s) (l .bytes ∷ [])),
         (
           good .0,
@@ -297,13 +250,6 @@ keeps EdgeRows s t l good h = keeps-edge-rows s t l good h
 
 -- ---- the last line
 
-ended-when-fine : (l : Line) → misspaced l ≡ false → l .ended ≡ true
-ended-when-fine l h = and-parts (spaced (l .bytes)) (l .ended) (not-false _ h) .1
-
--- A sheet does not lack where the last line is taken.
-none-lacks : (more : ℕ) (l : Line) → l .last ≡ true → lacksSheet more l ≡ false → 0 < more → ⊥
-none-lacks more l last h some = false≢true (sym h ∙ and-from (l .last) (ltb 0 more) last (lt-ltb 0 more some))
-
 pub last-line : (stage : Stage) (s t : Parts) (l : Line) → stepAt stage s l ≡ Ok t → l .last ≡ true → (t .stage ≡ EdgeRows) × (l .ended ≡ true)
 last-line TickHead s t l h last = absurd (none-lacks 2 l last (head-taken 2 (headIs tickHead (l .bytes)) l (at s TickRows) t h .whole) (omega arith))
 last-line TickRows s t l h last = ⊎-elim
@@ -323,24 +269,7 @@ last-line EdgeRows s t l h last = ⊎-elim
     (λ row. (ap (λ x. x .stage) (sym (row .goes)), ended-when-fine l (row .fine)))
     (row-taken edgeLimits (length (s .edges)) (Edge′ (length (s .places) - 1) (length (s .names))) (s .names) l (λ cells. withEdge s (edgeFrom (length (s .names)) cells)) s t h)
 
-walk-ends : (whole : Bool) (l : List ℕ) (ls : List (List ℕ)) (s t : Parts) (k : ℕ) → walk tableStep whole s k (l ∷ ls) ≡ Ok t → (t .stage ≡ EdgeRows) × (whole ≡ true)
-walk-ends whole l [] s t k h = go (tableStep s (lineHere whole l [])) refl h
-  where
-    go : (r : Result Parts ℕ) → tableStep s (lineHere whole l []) ≡ r → andThen (atLine k r) (λ next. Ok next) ≡ Ok t → (t .stage ≡ EdgeRows) × (whole ≡ true)
-    go (Ok u) e h′ = last-line (s .stage) s t (lineHere whole l []) (e ∙ ap Ok (same-from-ok u t h′)) refl
-    go (Err n) e h′ = never-ok _ t h′
-walk-ends whole l (l′ ∷ ls) s t k h = go (λ u h′. walk-ends whole l′ ls u t (suc k) h′) (tableStep s (lineHere whole l (l′ ∷ ls))) h
-  where
-    go : ((u : Parts) → walk tableStep whole u (suc k) (l′ ∷ ls) ≡ Ok t → (t .stage ≡ EdgeRows) × (whole ≡ true))
-        → (r : Result Parts ℕ) → andThen (atLine k r) (λ next. walk tableStep whole next (suc k) (l′ ∷ ls)) ≡ Ok t → (t .stage ≡ EdgeRows) × (whole ≡ true)
-    go on (Ok u) h′ = on u h′
-    go on (Err n) h′ = never-ok _ t h′
-
 -- ---- the whole text
-
-no-lines : (t : List ℕ) → empty t ≡ false → lines t ≡ [] → ⊥
-no-lines [] e h = false≢true (sym e)
-no-lines (b ∷ t) e h = omega (arith, some-line b t, ap length h)
 
 finished : (stage : Stage) (s : Parts) → stage ≡ EdgeRows → GoodAt stage s → (soFarAt stage s ≡ tableLines (held s)) × (lawful (held s) ≡ true)
 finished TickHead s e good = absurd (let z : _≡_ {A = ℕ} 0 1 = cc in omega arith)
@@ -348,55 +277,21 @@ finished TickRows s e good = absurd (let z : _≡_ {A = ℕ} 0 1 = cc in omega a
 finished PlaceHead s e good = absurd (let z : _≡_ {A = ℕ} 0 1 = cc in omega arith)
 finished PlaceRows s e good = absurd (let z : _≡_ {A = ℕ} 0 1 = cc in omega arith)
 finished EdgeHead s e good = absurd (let z : _≡_ {A = ℕ} 0 1 = cc in omega arith)
-finished EdgeRows s e good = (whole (s .ticks) (good .0), is-lawful (s .ticks) (good .0))
-  where
-    whole : (ticks : List ℕ) → OneTick ticks
-        → ((tickHead ∷ tickLines ticks) ++ middle s) ++ back s
-        ≡ (tickHead ∷ rowLine [] (Number (getD ticks 0 0) ∷ []) ∷ [] ∷ placeHead ∷ placeLines 0 (s .places)) ++ ([] ∷ edgeHead (s .names) ∷ edgeLines (s .names) (s .edges))
-    whole [] one = absurd (omega (arith, one .1))
-    whole (n ∷ []) one = refl
-    whole (n ∷ m ∷ ns) one = absurd (one .0)
-
-    is-lawful : (ticks : List ℕ) → OneTick ticks → lawful (record { tick = getD ticks 0 0; names = s .names; places = s .places; edges = s .edges }) ≡ true
-    is-lawful [] one = absurd (omega (arith, one .1))
-    is-lawful (n ∷ []) one =
-        and-from _ _ (and-from _ _ (le-leb 1 n (one .0 .0)) (le-leb n 60000 (one .0 .1)))
-        (and-from _ _ (good .2)
-        (and-from _ _ (and-from _ _ (le-leb 1 _ (good .1 .0)) (le-leb _ 32 (good .1 .1)))
-        (and-from _ _ (le-leb _ 64 (good .3 .0)) (good .3 .1))))
-    is-lawful (n ∷ m ∷ ns) one = absurd (one .0)
-
-walked : (whole : Bool) (ls : List (List ℕ)) (s : Parts) → (ls ≡ [] → ⊥) → walk tableStep whole start 1 ls ≡ Ok s
-    → (ls ≡ tableLines (held s)) × (lawful (held s) ≡ true) × (whole ≡ true)
-walked whole [] s some h = absurd (some refl)
-walked whole (l ∷ ls) s some h =
-    let ends = walk-ends whole l ls start s 1 h in
-    let kept = walk-keeps tableStep whole (λ p before. Kept before p)
-    (λ p q before line rest now taken. subst (λ x. Kept (x ++ (line ∷ [])) q) (now .0) (keeps (p .stage) p q (lineHere whole line rest) (now .1) taken))
-    (l ∷ ls) [] start s 1 (refl, (refl, refl, refl)) h in
-    let done = finished (s .stage) s (ends .0) (kept .1) in
-    (sym (kept .0) ∙ done .0, done .1, ends .1)
+finished EdgeRows s e good =
+    let one = one-tick (s .ticks) (good .0) in (
+      ap (λ ticks. ((tickHead ∷ tickLines ticks) ++ middle s) ++ back s) (one .0),
+      and-from _ _ (one .1)
+          (and-from _ _ (good .2)
+          (and-from _ _ (and-from _ _ (le-leb 1 _ (good .1 .0)) (le-leb _ 32 (good .1 .1)))
+          (and-from _ _ (le-leb _ 64 (good .3 .0)) (good .3 .1)))),
+    )
 
 -- A text that is taken is the text of the table that is read, and that table is lawful.
 pub taken-is-written : (t : List ℕ) (s : Parts) → readTable t ≡ Ok s → (t ≡ tableText (held s)) × (lawful (held s) ≡ true)
 taken-is-written t s h =
-    let one = refused-not (ltb 32768 (length t)) h in
-    let two = byte-not (badByte t) one in
-    let three = line-not (empty t) refl two in
-    let all = walked (ended t) (lines t) s (three .0) (three .1) in
-    (sym (unlines-of-lines t (all .2)) ∙ ap unlines (all .0), all .1)
-  where
-    refused-not : (b : Bool) → cond b (Err (record { number = 1; line = 0 })) (checked (badByte t) (cond (empty t) (Err (record { number = 3; line = 0 })) (walk tableStep (ended t) start 1 (lines t)))) ≡ Ok s
-        → checked (badByte t) (cond (empty t) (Err (record { number = 3; line = 0 })) (walk tableStep (ended t) start 1 (lines t))) ≡ Ok s
-    refused-not true e = never-ok _ s e
-    refused-not false e = e
-
-    byte-not : (o : Option ℕ) → checked o (cond (empty t) (Err (record { number = 3; line = 0 })) (walk tableStep (ended t) start 1 (lines t))) ≡ Ok s
-        → cond (empty t) (Err (record { number = 3; line = 0 })) (walk tableStep (ended t) start 1 (lines t)) ≡ Ok s
-    byte-not None e = e
-    byte-not (Some k) e = never-ok _ s e
-
-    line-not : (b : Bool) → empty t ≡ b → cond b (Err (record { number = 3; line = 0 })) (walk tableStep (ended t) start 1 (lines t)) ≡ Ok s
-        → (lines t ≡ [] → ⊥) × (walk tableStep (ended t) start 1 (lines t) ≡ Ok s)
-    line-not true e h′ = never-ok _ s h′
-    line-not false e h′ = (λ none. no-lines t e none, h′)
+    let all = taken-was-walked 32768 tableStep start (λ p before. Kept before p) (λ p. p .stage ≡ EdgeRows) (refl, (refl, refl, refl))
+    (λ p q before l now taken. subst (λ x. Kept (x ++ (l .bytes ∷ [])) q) (now .0) (keeps (p .stage) p q l (now .1) taken))
+    (λ p q l taken last. last-line (p .stage) p q l taken last)
+    t s h in
+    let done = finished (s .stage) s (all .1) (all .0 .1) in
+    (all .2 ∙ ap unlines (sym (all .0 .0) ∙ done .0), done .1)

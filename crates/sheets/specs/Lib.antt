@@ -1,2 +1,9 @@
 pub mod Walk
+pub mod Faults
 pub mod TableText
+pub mod DistanceText
+pub mod EntriesText
+pub mod Heads
+pub mod Reader
+pub mod Cursor
+pub mod EntryLines
