@@ -87,7 +87,7 @@ fn names_from(heap: Global, line: &[u8], from: usize) -> Result<Vec<Name>, LineF
 }
 
 // A line that has to be the head of the edges, which is the last sheet: its names.
-pub fn judge_edge_head(heap: Global, line: TextLine) -> Result<Vec<Name>, LineFault>
+pub(crate) fn judge_edge_head(heap: Global, line: TextLine) -> Result<Vec<Name>, LineFault>
     ensures { λ r. ⌜ Agrees (λ v. map text (vec-items v)) r (headStep 0 (edgeHeadWrong (words (line .entry .bytes .now))) (lineIn (line .entry)) (drop 3 (words (line .entry .bytes .now)))) ⌝ }
 {
     if is_misspaced(line) {

@@ -36,7 +36,7 @@ fn lacks_sheet(line: TextLine, more: usize) -> bool
 }
 
 // A line that has to be this head, where `more` sheets follow.
-pub fn judge_head(line: TextLine, more: usize, head: &[u8]) -> Result<(), LineFault>
+pub(crate) fn judge_head(line: TextLine, more: usize, head: &[u8]) -> Result<(), LineFault>
     ensures { λ r. ⌜ Agrees (λ _. tt {0}) r (headStep more (headIs (now (head .entry)) (line .entry .bytes .now)) (lineIn (line .entry)) (tt {0})) ⌝ }
 {
     if is_misspaced(line) {
@@ -78,7 +78,7 @@ pub(crate) fn row_fault(fault: WordFault) -> LineFault
 }
 
 // A line among the rows of a sheet that has `count` rows so far: a row, or none where an empty line ends the sheet.
-pub fn judge_row(
+pub(crate) fn judge_row(
     line: TextLine,
     limits: SheetLimits,
     count: usize,
