@@ -1,3 +1,5 @@
+#![tactic(auto)]
+
 // The names of events.
 pub mod name;
 // Readings of eight clocks: how they advance and restart, and which bounds they meet.

@@ -1,3 +1,5 @@
+#![tactic(auto)]
+
 // Faults of one layer as faults of the next.
 pub mod convert;
 // What a line of an entries text says.

@@ -1,3 +1,5 @@
+#![tactic(auto)]
+
 // The lines of a text in turn.
 pub mod cursor;
 // A line of an entries text: the head, or a claim.

@@ -1,3 +1,5 @@
+#![tactic(auto)]
+
 // Replays words over the part in the file `part.txt`: the reading at each pair, and whether the word is a behaviour of the part.
 use anyhow::anyhow;
 use clocks::name::Name;

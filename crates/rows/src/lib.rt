@@ -1,3 +1,5 @@
+#![tactic(auto)]
+
 // The cells, columns and rows of a sheet.
 pub mod cell;
 // What a cell holds.

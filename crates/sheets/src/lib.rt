@@ -1,3 +1,5 @@
+#![tactic(auto)]
+
 // Distances from their texts.
 pub mod distances;
 // Claims from their texts, read without memory.

@@ -1,5 +1,7 @@
 // Tries every limit on both sides. Each line tells what was tried and what came; the file `stdout` beside `src/` has what the rules say.
 
+#![tactic(auto)]
+
 mod distance_texts;
 mod entry_texts;
 mod parts;
