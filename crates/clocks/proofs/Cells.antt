@@ -1,11 +1,12 @@
 -- What the code of a reading does to its cells. Assumes nothing.
-use Rattle.std.proofs.Common.{◌≡◌, ℕ, ◌+◌, ◌<◌, ◌≤◌, min, Bool, true, false, ◌&&◌, eqb, List, [], ◌∷◌, ◌++◌, map, length, get_or, take, drop, set, Some, None, Decides, Option, sym, refl, ap, ◌∙◌, subst, true≢false, append-nil, arith, MatchOption}
+use Rattle.std.proofs.Common.{◌≡◌, ℕ, ◌+◌, ◌<◌, ◌≤◌, min, Bool, true, ◌&&◌, eqb, List, [], ◌∷◌, ◌++◌, map, length, get_or, take, drop, set, Some, None, Decides, Option, sym, refl, ap, ◌∙◌, subst, true≢false, append-nil, arith}
 use mathlib.Core.List.{map-map}
 use Rattle.std.proofs.lemmas.List.Edits.{map_over_more}
 use Rattle.std.proofs.lemmas.List.{take_all, drop_all, drop_more, get_or_default, length-append, length-map, length-take, length-drop}
 use Rattle.std.proofs.lemmas.Bool.{and_parts, eqb-true}
 use Rattle.std.specs.Cmp.{nat_eq_equiv}
-use Rattle.std.specs.Cmp.Lexicographic.{Matches, each, each-itself, optional-equal, pairwise}
+use Rattle.std.specs.Cmp.Lexicographic.{lists_equiv, options_equiv}
+use lib.Pointwise.{pointwise}
 use Rattle.std.specs.Option.{option_eq, option_map}
 use Rattle.meaning.specs.Stepping.{Cells, advanced, holds, holds_all}
 use Rattle.meaning.specs.declared.values.Bound.{Bound}
@@ -56,20 +57,16 @@ same-cell None (Some y) h = absurd (true≢false (sym h))
 same-cell (Some x) None h = absurd (true≢false (sym h))
 same-cell (Some x) (Some y) h = ap Some (eqb-true x y h)
 
-same-cells : (xs ys : Cells) → each (optional-equal nat_eq_equiv) xs ys ≡ true → xs ≡ ys
+same-cells : (xs ys : Cells) → pointwise (option_eq eqb) xs ys ≡ true → xs ≡ ys
 same-cells [] [] h = refl
 same-cells [] (y ∷ ys) h = absurd (true≢false (sym h))
 same-cells (x ∷ xs) [] h = absurd (true≢false (sym h))
 same-cells (x ∷ xs) (y ∷ ys) h =
-    let p = and_parts (option_eq eqb x y) (each (optional-equal nat_eq_equiv) xs ys) h in
+    let p = and_parts (option_eq eqb x y) (pointwise (option_eq eqb) xs ys) h in
     λ i. same-cell x y p.0 i ∷ same-cells xs ys p.1 i
 
--- what `==` answers of two arrays of cells
-abbrev pub CellsMatch : Cells → Cells → Bool → Type 0
-CellsMatch = Matches (λ (p q : Option ℕ) (t : Bool). MatchOption p (MatchOption q (t ≡ true) (λ _. t ≡ false)) (λ x. MatchOption q (t ≡ false) (λ y. Decides t (x ≡ y))))
-
-pub cells-decide : (xs ys : Cells) (r : Bool) → CellsMatch xs ys r → Decides r (xs ≡ ys)
-cells-decide xs ys r h =
-    let o = optional-equal nat_eq_equiv in
-    let e = (pairwise o).says xs ys r h in
-    (λ t. same-cells xs ys (sym e ∙ t), λ s. e ∙ subst (λ zs. each o xs zs ≡ true) s (each-itself o xs))
+-- What `==` answers of two lists of cells decides whether they are the same.
+pub cells-decide : (xs ys : Cells) → Decides (pointwise (option_eq eqb) xs ys) (xs ≡ ys)
+cells-decide xs ys =
+    let o = lists_equiv (options_equiv nat_eq_equiv) in
+    (same-cells xs ys, λ s. subst (λ zs. pointwise (option_eq eqb) xs zs ≡ true) s (o.refl xs))

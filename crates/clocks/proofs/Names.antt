@@ -1,9 +1,8 @@
 -- A name that is copied letter by letter. Assumes nothing.
-use Rattle.std.proofs.Common.{◌≡◌, ℕ, ◌+◌, ◌<◌, ◌≤◌, Bool, List, [], ◌∷◌, ◌++◌, length, get_or, take, set, Decides, sym, refl, ap, ◌∙◌, arith}
-use Rattle.std.proofs.lemmas.Slice.Eq.{bytes_eq-Decides}
+use Rattle.std.proofs.Common.{◌≡◌, ℕ, ◌+◌, ◌<◌, ◌≤◌, List, [], ◌∷◌, ◌++◌, length, get_or, take, set, sym, ap, ◌∙◌, arith}
 use Rattle.std.proofs.lemmas.List.{take_all, take_more, take_more_set, length-set}
-use Rattle.std.proofs.lemmas.Bool.Decides.{same_from_decides}
 use Rattle.std.specs.Cmp.{IsEquivalence}
+use Rattle.std.proofs.lemmas.Cmp.{on_equiv, nat_list_eq_equiv}
 use Rattle.std.specs.Str.{bytes_eq}
 use Rattle.clocks.specs.declared.name.Name.{Name}
 use Rattle.clocks.specs.Texts.{text}
@@ -22,14 +21,5 @@ copied_all bytes letters i past within so =
     ap (λ k. take k letters) e ∙ so ∙ take_all i bytes past
 
 -- Names are the same if their letters are.
-abbrev pub names-equal : IsEquivalence (λ (a b : Name) (r : Bool). Decides r (text a ≡ text b))
-names-equal = record {
-  same = λ a b. bytes_eq (text a) (text b);
-  says = λ a b r h. same_from_decides r _ h (bytes_eq-Decides (text a) (text b));
-  itself = λ a. (bytes_eq-Decides (text a) (text a)).1 refl;
-  flip = λ a b. same_from_decides _ _ (bytes_eq-Decides (text a) (text b)) (turned (text a) (text b));
-  alike = λ a b c h. ap (λ t. bytes_eq t (text c)) ((bytes_eq-Decides (text a) (text b)).0 h);
-}
-  where
-    turned : (x y : List ℕ) → Decides (bytes_eq y x) (x ≡ y)
-    turned x y = (λ h. sym ((bytes_eq-Decides y x).0 h), λ e. (bytes_eq-Decides y x).1 (sym e))
+pub names-equal : IsEquivalence (λ (a b : Name). bytes_eq (text a) (text b))
+names-equal = on_equiv text nat_list_eq_equiv

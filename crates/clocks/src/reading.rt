@@ -1,6 +1,9 @@
 ghost use Rattle.clocks.specs.Cells.{advanced_cell};
 ghost use Rattle.meaning.specs.Stepping.{never, advanced, restarted, holds, holds_all};
-ghost use Rattle.std.specs.Prelude.{◌≡◌, None, Decides, slice_index_or};
+ghost use Rattle.std.specs.Option.{option_eq};
+ghost use Rattle.std.specs.Ordering.{on};
+ghost use Rattle.std.specs.Prelude.{◌≡◌, None, Decides, nat_eq, slice_index_or};
+ghost use lib.Pointwise.{pointwise};
 ghost use Rattle.std.specs.Cmp.Rules.{comparing};
 ghost use Rattle.std.proofs.Common.{rules};
 
@@ -102,11 +105,14 @@ fn same_cells(one: &[Option<u16>; 8], other: &[Option<u16>; 8]) -> bool
 
 // A derived `==` would promise nothing of the cells. This one tells exactly whether two readings are the same.
 impl PartialEq for Reading {
-    ghost equals = { λ a b r. Decides r (a ≡ b) };
+    ghost eq = { on (λ r. r.cells) (pointwise (option_eq nat_eq)) };
 
     ghost laws = { Prim.search (comparing, rules) };
 
-    fn eq(&self, other: &Reading) -> bool {
+    fn eq(&self, other: &Reading) -> bool
+        ensures value { result ≡ pointwise (option_eq nat_eq) self.now.cells other.now.cells }
+        ensures same { Decides result (self.now ≡ other.now) }
+    {
         same_cells(&self.cells, &other.cells)
     }
 }

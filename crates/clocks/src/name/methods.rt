@@ -1,9 +1,9 @@
 ghost use Rattle.clocks.specs.Texts.{text};
 ghost use Rattle.clocks.specs.Letters.{lawful_name};
 ghost use Rattle.std.specs.Option.{option_map};
-ghost use Rattle.std.specs.Prelude.{◌≡◌, ◌≤◌, length, take, if◌then◌else◌, Some, None, Decides};
+ghost use Rattle.std.specs.Prelude.{◌≡◌, ◌≤◌, length, take, if◌then◌else◌, Some, None, Decides, bytes_eq};
 ghost use Rattle.std.specs.Cmp.Rules.{comparing};
-ghost use Rattle.std.proofs.Common.{rules, arith};
+ghost use Rattle.std.proofs.Common.{rules};
 
 use super::Name;
 use texts::tokens::is_name;
@@ -48,11 +48,14 @@ fn same_bytes(one: &[u8], other: &[u8]) -> bool
 
 // Two names are the same if their letters are.
 impl PartialEq for Name {
-    ghost equals = { λ a b r. Decides r (text a ≡ text b) };
+    ghost eq = { λ a b. bytes_eq (text a) (text b) };
 
-    ghost laws = { first_of (Prim.search (comparing, rules), Prim.grind (arith, Self.row.coded.inj)) };
+    ghost laws = { Prim.search (comparing, rules) };
 
-    fn eq(&self, other: &Name) -> bool {
+    fn eq(&self, other: &Name) -> bool
+        ensures value { result ≡ bytes_eq (text self.now) (text other.now) }
+        ensures same { Decides result (text self.now ≡ text other.now) }
+    {
         same_bytes(self.bytes(), other.bytes())
     }
 }
