@@ -5,4 +5,4 @@ use Rattle.tables.proofs.limits.are_lawful.Goals as goal
 pub returns : goal.returns
 returns c =
     lawful-is c.args.tick c.args.names.now c.args.places.now c.args.edges.now _ c.if-tick-eq0.false c.if-tick-gt60000.false
-    c.if-not-lawful-names.ensures (false-eqb _ 0 c.if-is-empty.ensures) c.if-places-gt32.false c.lawful-edges.ensures
+    c.if-not-lawful_names.ensures (false-eqb _ 0 c.if-is_empty.ensures) c.if-places-gt32.false c.lawful_edges.ensures

@@ -5,8 +5,8 @@ use Rattle.tables.proofs.limits.cap_of.Goals as goal
 
 pub loop-edge-preserved : goal.loop-edge-preserved
 loop-edge-preserved c =
-    max-more (λ e. top_of_bounds e.bounds) cap_of (λ _ _. refl) c.args.edges.now c.loop-edge.edge_index _ (omega arith) c.loop-edge.most c.top-of-bounds.result c.max-most.result _
-    c.top-of-bounds.ensures c.max-most.ensures c.loop-edge.invariant
+    max-more (λ e. top_of_bounds e.bounds) cap_of (λ _ _. refl) c.args.edges.now c.loop-edge.edge-index _ (omega arith) c.loop-edge.most c.top_of_bounds.result c.max-most.result _
+    c.top_of_bounds.ensures c.max-most.ensures c.loop-edge.invariant
 
 pub returns : goal.returns
-returns c = max-all cap_of c.args.edges.now c.loop-edge.edge_index _ _ refl (omega arith) c.loop-edge.invariant
+returns c = max-all cap_of c.args.edges.now c.loop-edge.edge-index _ _ refl (omega arith) c.loop-edge.invariant

@@ -7,5 +7,5 @@ use Rattle.tables.proofs.table.Table.few_names.Goals as goal
 pub returns : goal.returns
 returns c =
     let names = vec_items c.args.self.now.names in
-    let count = ap length c.as-slice.ensures.value ∙ sym (length-map names text) in
+    let count = ap length c.as_slice.ensures.value ∙ sym (length-map names text) in
     record { count = count; few = omega (arith, (kept c.args.self.now).events, count) }

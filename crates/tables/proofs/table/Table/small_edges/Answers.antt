@@ -5,6 +5,6 @@ use Rattle.tables.proofs.table.Table.small_edges.Goals as goal
 
 pub returns : goal.returns
 returns c = record {
-  value = c.as-slice.ensures.value;
-  ends = λ e mem. edges_fit c.args.self.now e (subst (Memᴰ e) c.as-slice.ensures.value mem);
+  value = c.as_slice.ensures.value;
+  ends = λ e mem. edges_fit c.args.self.now e (subst (Memᴰ e) c.as_slice.ensures.value mem);
 }
