@@ -5,6 +5,6 @@ use Rattle.rows.proofs.word.read_cell.Goals as goal
 
 pub returns : goal.returns
 returns c =
-    c.cell-from.ensures
+    c.cell_from.ensures
     ∙ cell-by-token c.args.column (take 8 (map text c.args.names.now)) c.args.before c.args.word.now c.args.line _
-    (eight-are-lawful c.args.names.now) c.token-of.ensures
+    (eight-are-lawful c.args.names.now) c.token_of.ensures
