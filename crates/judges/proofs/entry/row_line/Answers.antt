@@ -9,18 +9,18 @@ pub returns-in-Ok : goal.returns-in-Ok
 returns-in-Ok c =
     let names = c.args.names.now in
     let few : length (take 8 (map text names)) ≤ 8 = omega (arith, length-take 8 (map text names)) in
-    let count : length c.first-eight.result.now ≡ length (take 8 (map text names)) =
-    omega (arith, ap length c.first-eight.ensures, length-take 8 names, length-take 8 (map text names), length-map names text) in
-    ap Ok c.claim-in.ensures
-    ∙ row-claims (take 8 (map text names)) few c.args.room c.args.count (line_in c.args.line) (sym c.if-is-misspaced.ensures) c.if-count-room.false
-    (length c.first-eight.result.now) count c.in-Ok.row c.in-Ok.ensures
+    let count : length c.first_eight.result.now ≡ length (take 8 (map text names)) =
+    omega (arith, ap length c.first_eight.ensures, length-take 8 names, length-take 8 (map text names), length-map names text) in
+    ap Ok c.claim_in.ensures
+    ∙ row-claims (take 8 (map text names)) few c.args.room c.args.count (line_in c.args.line) (sym c.if-is_misspaced.ensures) c.if-count-room.false
+    (length c.first_eight.result.now) count c.in-Ok.row c.in-Ok.ensures
 
 pub returns-in-Err : goal.returns-in-Err
 returns-in-Err c =
     let names = c.args.names.now in
     let few : length (take 8 (map text names)) ≤ 8 = omega (arith, length-take 8 (map text names)) in
-    let count : length c.first-eight.result.now ≡ length (take 8 (map text names)) =
-    omega (arith, ap length c.first-eight.ensures, length-take 8 names, length-take 8 (map text names), length-map names text) in
-    ap (λ f. Err (line_number f)) c.row-fault.ensures
-    ∙ row-fails (take 8 (map text names)) few c.args.room c.args.count (line_in c.args.line) (sym c.if-is-misspaced.ensures) c.if-count-room.false
-    (length c.first-eight.result.now) count c.in-Err.fault c.in-Err.ensures
+    let count : length c.first_eight.result.now ≡ length (take 8 (map text names)) =
+    omega (arith, ap length c.first_eight.ensures, length-take 8 names, length-take 8 (map text names), length-map names text) in
+    ap (λ f. Err (line_number f)) c.row_fault.ensures
+    ∙ row-fails (take 8 (map text names)) few c.args.room c.args.count (line_in c.args.line) (sym c.if-is_misspaced.ensures) c.if-count-room.false
+    (length c.first_eight.result.now) count c.in-Err.fault c.in-Err.ensures

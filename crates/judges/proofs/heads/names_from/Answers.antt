@@ -13,14 +13,14 @@ loop-at-init c =
 
 pub loop-at-preserved : goal.loop-at-preserved
 loop-at-preserved c =
-    loop-goes c.args.line.bytes.now c.args.from c.loop-at.at c.word-stop-end.result (vec_items c.loop-at.names) c.as-slice.result.now
-    c.loop-at-test.true c.word-stop-end.ensures.value c.as-slice.ensures.value c.loop-at.invariant
-    c.in-Some.name (vec_items c.push.new.self) c.in-Some.ensures c.in-ok-push.ensures.items
+    loop-goes c.args.line.bytes.now c.args.from c.loop-at.at c.word_stop-end.result (vec_items c.loop-at.names) c.as_slice.result.now
+    c.loop-at-test.true c.word_stop-end.ensures.value c.as_slice.ensures.value c.loop-at.invariant
+    c.in-Some.name (vec_items c.push.new.self) c.in-Some.ensures c.in_ok-push-in-Some.ensures.items
 
 pub returns-in-None : goal.returns-in-None
 returns-in-None c = ap (at_line c.args.line.number)
-    (loop-refused c.args.line.bytes.now c.args.from c.loop-at.at c.word-stop-end.result (vec_items c.loop-at.names) c.as-slice.result.now
-    c.loop-at-test.true c.word-stop-end.ensures.value c.as-slice.ensures.value c.loop-at.invariant c.in-None.ensures)
+    (loop-refused c.args.line.bytes.now c.args.from c.loop-at.at c.word_stop-end.result (vec_items c.loop-at.names) c.as_slice.result.now
+    c.loop-at-test.true c.word_stop-end.ensures.value c.as_slice.ensures.value c.loop-at.invariant c.in-None.ensures)
 
 pub returns : goal.returns
 returns c = ap (at_line c.args.line.number) (loop-done c.args.line.bytes.now c.args.from c.loop-at.at _ c.loop-at-test.false c.loop-at.invariant)

@@ -5,21 +5,21 @@ use Rattle.formats.specs.Faults.{line_number, line_in, limits_in}
 use Rattle.formats.specs.Walk.{row_step, row_gives}
 use Rattle.formats.proofs.Steps.{some_row, row-judged, row-given, row-refused}
 use Rattle.judges.proofs.judging.judge_row.Goals as goal
-use Rattle.judges.proofs.judging.judge_row.Goals.{After-read-row}
+use Rattle.judges.proofs.judging.judge_row.Goals.{After-read_row}
 
-judged : (c : After-read-row) → row_step (limits_in c.args.limits) c.args.count c.args.kind (take 8 (map text c.args.names.now)) (line_in c.args.line) some_row None
+judged : (c : After-read_row) → row_step (limits_in c.args.limits) c.args.count c.args.kind (take 8 (map text c.args.names.now)) (line_in c.args.line) some_row None
     ≡ row_gives (row_of c.args.kind (take 8 (map text c.args.names.now)) c.args.line.bytes.now) some_row
 judged c =
     row-judged (limits_in c.args.limits) c.args.count c.args.kind (take 8 (map text c.args.names.now)) (line_in c.args.line)
-    (sym c.if-ends-sheet.ensures) (sym c.if-is-misspaced.ensures) (sym c.if-lacks-sheet.ensures) c.if-count-limits.false some_row None
+    (sym c.if-ends_sheet.ensures) (sym c.if-is_misspaced.ensures) (sym c.if-lacks_sheet.ensures) c.if-count-limits.false some_row None
 
 pub returns-in-Ok : goal.returns-in-Ok
 returns-in-Ok c =
     row-given (row_of c.args.kind (take 8 (map text c.args.names.now)) c.args.line.bytes.now) c.in-Ok.row c.in-Ok.ensures
-    ∙ sym (judged (goal.at.returns-in-Ok c).After-read-row)
+    ∙ sym (judged (goal.at.returns-in-Ok c).After-read_row)
 
 pub returns-in-Err : goal.returns-in-Err
 returns-in-Err c =
-    ap (λ f. Err (line_number f)) c.row-fault.ensures
+    ap (λ f. Err (line_number f)) c.row_fault.ensures
     ∙ row-refused some_row (row_of c.args.kind (take 8 (map text c.args.names.now)) c.args.line.bytes.now) c.in-Err.fault c.in-Err.ensures
-    ∙ sym (judged (goal.at.returns-in-Err c).After-read-row)
+    ∙ sym (judged (goal.at.returns-in-Err c).After-read_row)

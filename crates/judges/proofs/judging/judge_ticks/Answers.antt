@@ -12,13 +12,13 @@ returns-in-None c =
 
 pub returns-in-Some : goal.returns-in-Some
 returns-in-Some c =
-    sym (tick-read (limits_in c.args.limits) c.args.count (line_in c.args.line) c.in-Some.row _ c.number-in.result
-    (judged-as _ c.in-Ok.judged (Some c.in-Some.row) c.in-Ok.ensures c.in-Some.is) c.number-in.ensures).0
+    sym (tick-read (limits_in c.args.limits) c.args.count (line_in c.args.line) c.in-Some.row _ c.number_in.result
+    (judged-as _ c.in-Ok.judged (Some c.in-Some.row) c.in-Ok.ensures c.in-Some.is) c.number_in.ensures).0
 
-pub overflow-cast-result : goal.overflow-cast-result
-overflow-cast-result c =
+pub overflow_cast-result : goal.overflow_cast-result
+overflow_cast-result c =
     omega (
       arith,
-      (tick-read (limits_in c.args.limits) c.args.count (line_in c.args.line) c.in-Some.row _ c.number-in.result
-          (judged-as _ c.in-Ok.judged (Some c.in-Some.row) c.in-Ok.ensures c.in-Some.is) c.number-in.ensures).1,
+      (tick-read (limits_in c.args.limits) c.args.count (line_in c.args.line) c.in-Some.row _ c.number_in.result
+          (judged-as _ c.in-Ok.judged (Some c.in-Some.row) c.in-Ok.ensures c.in-Some.is) c.number_in.ensures).1,
     )
