@@ -8,9 +8,9 @@ use Rattle.formats.specs.EntryLines.{event_names}
 use Rattle.formats.specs.Faults.{Fails, refusal}
 use Rattle.formats.proofs.DistanceLaws.{lawful-for-more, distances-taken, distances-not-read, distances-or-fault}
 use Rattle.sheets.proofs.distances.list_in.Goals as goal
-use Rattle.sheets.proofs.distances.list_in.Goals.{After-read-parts, In-Ok}
+use Rattle.sheets.proofs.distances.list_in.Goals.{After-read_parts, In-Ok}
 
-told : (c : After-read-parts) → event_names c.names.result.now ≡ (contents c.args.table.now).names
+told : (c : After-read_parts) → event_names c.names.result.now ≡ (contents c.args.table.now).names
 told c = ap (take 8) c.names.ensures ∙ take_all 8 (contents c.args.table.now).names (kept c.args.table.now).events
 
 taken : (c : In-Ok) → OnlyDistances (contents c.args.table.now).names c.args.text.now (distances_held (distance_parts_of c.in-Ok.reader))
@@ -18,7 +18,7 @@ taken c =
     let table = c.args.table.now in
     let t = c.args.text.now in
     distances-taken (contents table).names (names-kept table).0 (names-kept table).1 t (distance_parts_of c.in-Ok.reader)
-    (subst (λ ns. read_distances ns t ≡ Ok (distance_parts_of c.in-Ok.reader)) (told (goal.at.In-Ok c).After-read-parts) c.in-Ok.ensures)
+    (subst (λ ns. read_distances ns t ≡ Ok (distance_parts_of c.in-Ok.reader)) (told (goal.at.In-Ok c).After-read_parts) c.in-Ok.ensures)
 
 pub list-requires : goal.list-requires
 list-requires c = let table = c.args.table.now in
@@ -50,6 +50,6 @@ returns-in-Err c =
     let t = c.args.text.now in
     record {
       value = distances-not-read names (names-kept table).0 (names-kept table).1 t (refusal c.in-Err.fault)
-          (subst (λ ns. Fails (read_distances ns t) (refusal c.in-Err.fault)) (told (goal.at.returns-in-Err c).After-read-parts) c.in-Err.ensures);
+          (subst (λ ns. Fails (read_distances ns t) (refusal c.in-Err.fault)) (told (goal.at.returns-in-Err c).After-read_parts) c.in-Err.ensures);
       one = distances-or-fault names (names-kept table).0 (names-kept table).1 t;
     }

@@ -21,9 +21,9 @@ pub loop-line-preserved : goal.loop-line-preserved
 loop-line-preserved c =
     let inv = c.loop-line.invariant in
     let takes = c.in-Some.ensures in
-    let up = counts-on c.loop-line.cursor c.next-line.new.self c.in-Some.line takes inv.1 in (
+    let up = counts-on c.loop-line.cursor c.next_line.new.self c.in-Some.line takes inv.1 in (
       goes_on (distance_step (event_names c.args.names.now)) distance_start c.args.text.now c.loop-line.cursor c.loop-line.cursor.number (distance_parts_of c.loop-line.reader) inv.0
-          c.next-line.new.self c.in-Some.line takes (distance_parts_of c.line.new.self)
-          (taken_at c.in-Some.line.number _ _ c.in-ok-line.ensures) c.next-line.new.self.number up.0,
+          c.next_line.new.self c.in-Some.line takes (distance_parts_of c.line.new.self)
+          (taken_at c.in-Some.line.number _ _ c.in_ok-line.ensures) c.next_line.new.self.number up.0,
       omega (arith, up.0, up.1, inv.1),
     )

@@ -14,7 +14,7 @@ returns-in-Err c =
     let inv = c.loop-line.invariant in
     λ s taken. absurd
     (not-refused (event_names c.args.names.now) (length c.args.claims.now) c.args.text.now c.loop-line.stage c.loop-line.count c.loop-line.cursor inv.1 inv.0 inv.2
-    c.next-line.new.self c.in-Some.line c.in-Some.ensures (line_number c.in-Err.field-0) (sym c.in-Err.ensures) s taken)
+    c.next_line.new.self c.in-Some.line c.in-Some.ensures (line_number c.in-Err.field-0) (sym c.in-Err.ensures) s taken)
 
 pub loop-line-preserved-in-Ok-Some : goal.loop-line-preserved-in-Ok-Some
 loop-line-preserved-in-Ok-Some c =
@@ -27,7 +27,7 @@ loop-line-preserved-in-Ok-Some c =
       with_claim inv.0 claim,
       suc inv.1,
       past-claim names room c.args.text.now c.loop-line.stage c.loop-line.count c.loop-line.cursor inv.1 inv.0 inv.2
-          c.next-line.new.self c.in-Some.line c.in-Some.ensures (suc inv.1) refl claim gives,
+          c.next_line.new.self c.in-Some.line c.in-Some.ensures (suc inv.1) refl claim gives,
       one_more inv.0.claims c.args.claims.now c.loop-line.claims c.loop-line.count claim inv.2.count-is
           (claim-has-room names room c.loop-line.stage c.loop-line.count (line_in c.in-Some.line) claim gives) inv.3,
     )
@@ -40,6 +40,6 @@ loop-line-preserved c =
       entry_next inv.0 None,
       suc inv.1,
       past_head (event_names c.args.names.now) (length c.args.claims.now) c.args.text.now c.loop-line.stage c.loop-line.count c.loop-line.cursor inv.1 inv.0 inv.2
-          c.next-line.new.self c.in-Some.line c.in-Some.ensures (suc inv.1) refl gives,
+          c.next_line.new.self c.in-Some.line c.in-Some.ensures (suc inv.1) refl gives,
       inv.3,
     )

@@ -16,7 +16,7 @@ returns c =
     let few : length names ≤ 8 = (kept table).events in
     let told : event_names c.names.result.now ≡ names = ap (take 8) c.names.ensures ∙ take_all 8 names few in
     record {
-      value = list-filled names (names-kept table).0 (names-kept table).1 few t before c.read-claims.new.claims c.read-claims.result
-          (subst (λ ns. Fills c.read-claims.result (read_entries ns (length before) t) before c.read-claims.new.claims) told c.read-claims.ensures);
+      value = list-filled names (names-kept table).0 (names-kept table).1 few t before c.read_claims.new.claims c.read_claims.result
+          (subst (λ ns. Fills c.read_claims.result (read_entries ns (length before) t) before c.read_claims.new.claims) told c.read_claims.ensures);
       one = entries-or-fault names (length before) (names-kept table).0 (names-kept table).1 few t;
     }

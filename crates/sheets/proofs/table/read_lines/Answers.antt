@@ -29,10 +29,10 @@ loop-line-preserved c =
     let t = c.args.text.now in
     let inv = c.loop-line.invariant in
     let takes = c.in-Some.ensures in
-    let up = counts-on c.loop-line.cursor c.next-line.new.self c.in-Some.line takes inv.2 in
-    let went = taken_at c.in-Some.line.number _ _ c.in-ok-line.ensures in (
+    let up = counts-on c.loop-line.cursor c.next_line.new.self c.in-Some.line takes inv.2 in
+    let went = taken_at c.in-Some.line.number _ _ c.in_ok-line.ensures in (
       goes_on table_step start t c.loop-line.cursor c.loop-line.cursor.number (parts_of c.loop-line.reader) inv.0
-          c.next-line.new.self c.in-Some.line takes (parts_of c.line.new.self) went c.next-line.new.self.number up.0,
+          c.next_line.new.self c.in-Some.line takes (parts_of c.line.new.self) went c.next_line.new.self.number up.0,
       good-kept (parts_of c.loop-line.reader) (parts_of c.line.new.self) (line_in c.in-Some.line) inv.1 went,
       omega (arith, up.0, up.1, inv.2),
     )

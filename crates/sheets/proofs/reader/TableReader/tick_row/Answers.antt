@@ -16,19 +16,19 @@ pub returns-in-Err : goal.returns-in-Err
 returns-in-Err c =
     let s = parts_of c.args.self.now in
     fails-at c.args.line.number (line_number c.in-Err.fault) _ _
-    (tick-step-fails 2 s.ticks (line_in c.args.line) (with s) (at s PlaceHead) c.tick-count.result c.tick-count.ensures (line_number c.in-Err.fault) (sym c.in-Err.ensures))
-    c.at-line.ensures
+    (tick-step-fails 2 s.ticks (line_in c.args.line) (with s) (at s PlaceHead) c.tick_count.result c.tick_count.ensures (line_number c.in-Err.fault) (sym c.in-Err.ensures))
+    c.at_line.ensures
 
 pub returns-in-None : goal.returns-in-None
 returns-in-None c =
     let s = parts_of c.args.self.now in
     ap (at_line c.args.line.number)
-    (tick-step-ends 2 s.ticks (line_in c.args.line) (with s) (at s PlaceHead) c.tick-count.result c.tick-count.ensures
+    (tick-step-ends 2 s.ticks (line_in c.args.line) (with s) (at s PlaceHead) c.tick_count.result c.tick_count.ensures
     (sym c.in-Ok.ensures ∙ ap Ok c.in-None.is))
 
 pub returns-in-Some : goal.returns-in-Some
 returns-in-Some c =
     let s = parts_of c.args.self.now in
     ap (at_line c.args.line.number)
-    (tick-step-goes 2 s.ticks (line_in c.args.line) (with s) (at s PlaceHead) c.tick-count.result c.tick-count.ensures c.in-Some.tick
+    (tick-step-goes 2 s.ticks (line_in c.args.line) (with s) (at s PlaceHead) c.tick_count.result c.tick_count.ensures c.in-Some.tick
     (sym c.in-Ok.ensures ∙ ap Ok c.in-Some.is))

@@ -7,9 +7,9 @@ use Rattle.sheets.proofs.reader.steps.bounds_in.Goals as goal
 pub loop-event-preserved : goal.loop-event-preserved
 loop-event-preserved c =
     let size : length c.args.row.cells ≡ 11 = omega arith in (
-      length-set c.loop-event.bounds c.loop-event.event c.bound-in.result ∙ c.loop-event.invariant.0,
+      length-set c.loop-event.bounds c.loop-event.event c.bound_in.result ∙ c.loop-event.invariant.0,
       one_more bound_in 3 8 c.args.row.cells c.loop-event.bounds c.loop-event.event size (omega arith) c.loop-event.invariant.0 c.loop-event.invariant.1
-          c.bound-in.result c.loop-event-test.true c.bound-in.ensures,
+          c.bound_in.result c.loop-event-test.true c.bound_in.ensures,
     )
 
 pub returns : goal.returns
