@@ -2,7 +2,7 @@
 use Rattle.std.proofs.Common.{◌≡◌, ℕ, zero, suc, ◌+◌, ◌<◌, ◌≤◌, Bool, true, false, ◌&&◌, ltb, List, [], ◌∷◌, map, length, Some, Decides, sym, refl, ap, ◌∙◌, subst, zero-add, arith}
 use mathlib.Core.List.{Memᴰ}
 use Rattle.std.proofs.lemmas.Bool.{and_parts, and_from, ltb-true, lt-ltb}
-use Rattle.std.specs.List.{slice_get, AllByRecursion as All}
+use Rattle.std.specs.List.{slice_get, AllByRecursion}
 use Rattle.meaning.specs.declared.values.Pair.{Pair}
 use Rattle.meaning.specs.declared.values.Place.{Place}
 use Rattle.meaning.specs.declared.values.Edge.{Edge}
@@ -34,7 +34,7 @@ module _ (t : Contents) (fair : Fair t) where
   at_place f l h = place-from-marked f 0 t.places l l h.0 (zero-add l) h.1 h.2
 
   words-only : (w : List Pair) (cells : Cells) (l q : ℕ) → Path t.edges l (moves aged (length t.names) cells w) q
-      → All (λ p. p.event < length t.names) w
+      → AllByRecursion (λ p. p.event < length t.names) w
   words-only [] cells l q path = tt
   words-only (p ∷ w) cells l q path = (
     subst (λ a. a < length t.names) path.3 (fair.events path.0 path.1),

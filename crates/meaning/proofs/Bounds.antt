@@ -2,7 +2,7 @@
 use Rattle.std.proofs.Common.{◌≡◌, ℕ, zero, suc, ◌+◌, ◌<◌, ◌≤◌, true, ◌&&◌, leb, ◌⊎◌, List, [], ◌∷◌, ◌++◌, map, get_or, Some, None, Option, sym, refl, ap, ◌∙◌, subst, inl, inr, ⊎_elim, add-zero, arith}
 use Rattle.std.proofs.lemmas.Bool.{leb-true, le-leb, and_parts, and_from, false≢true}
 use Rattle.std.proofs.ByRecursion.{All-append}
-use Rattle.std.specs.List.{AllByRecursion as All}
+use Rattle.std.specs.List.{AllByRecursion}
 use Rattle.meaning.specs.declared.values.Bound.{Bound}
 use Rattle.meaning.specs.declared.values.Bound.TheVariants.{Any, Never, AtLeast, Between}
 use Rattle.meaning.specs.Published.{TimedWord, Clock, Test, undefined, at_least, at_most, Passes, Holds}
@@ -10,7 +10,7 @@ use Rattle.meaning.specs.Tables.{tests, atoms}
 use Rattle.meaning.specs.Stepping.{Cells, holds, holds_all}
 use Rattle.meaning.proofs.Clocks.{clock-has-one-value}
 
-all-parts : {X : Type 0} (P : X → Type 0) (xs ys : List X) → All P (xs ++ ys) → All P xs × All P ys
+all-parts : {X : Type 0} (P : X → Type 0) (xs ys : List X) → AllByRecursion P (xs ++ ys) → AllByRecursion P xs × AllByRecursion P ys
 all-parts P [] ys h = (tt, h)
 all-parts P (x ∷ xs) ys h = let rest = all-parts P xs ys h.1 in ((h.0, rest.0), rest.1)
 
@@ -19,7 +19,7 @@ module _ (w : TimedWord) (j : ℕ) where
   passes a t v known h = subst (Passes t) (clock-has-one-value w j a _ _ h.1 known) h.2
 
   pub bound-holds : (a : ℕ) (b : Bound) (v : Option ℕ) → Clock w j a v
-      → All (Holds w j) (map (λ t. record { clock = a; test = t }) (tests b)) → holds b v ≡ true
+      → AllByRecursion (Holds w j) (map (λ t. record { clock = a; test = t }) (tests b)) → holds b v ≡ true
   bound-holds a Any v known h = refl
   bound-holds a Never None known h = refl
   bound-holds a Never (Some v) known h = absurd (passes a undefined (Some v) known h.0)
@@ -30,7 +30,7 @@ module _ (w : TimedWord) (j : ℕ) where
       and_from _ _ (le-leb c v (passes a (at_least c) (Some v) known h.0)) (le-leb v d (passes a (at_most d) (Some v) known h.1.0))
 
   pub atoms-hold : (a : ℕ) (b : Bound) (v : Option ℕ) → Clock w j a v → holds b v ≡ true
-      → All (Holds w j) (map (λ t. record { clock = a; test = t }) (tests b))
+      → AllByRecursion (Holds w j) (map (λ t. record { clock = a; test = t }) (tests b))
   atoms-hold a Any v known h = tt
   atoms-hold a Never None known h = ((None, known, tt), tt)
   atoms-hold a Never (Some v) known h = absurd (false≢true h)
@@ -50,11 +50,11 @@ module _ (w : TimedWord) (j : ℕ) where
   any-holds : (b : Bound) (v : Option ℕ) → b ≡ Any → holds b v ≡ true
   any-holds b v e = ap (λ x. holds x v) e
 
-  any-atoms : (a : ℕ) (b : Bound) → b ≡ Any → All (Holds w j) (map (λ t. record { clock = a; test = t }) (tests b))
-  any-atoms a b e = subst (λ x. All (Holds w j) (map (λ t. record { clock = a; test = t }) (tests x))) (sym e) tt
+  any-atoms : (a : ℕ) (b : Bound) → b ≡ Any → AllByRecursion (Holds w j) (map (λ t. record { clock = a; test = t }) (tests b))
+  any-atoms a b e = subst (λ x. AllByRecursion (Holds w j) (map (λ t. record { clock = a; test = t }) (tests x))) (sym e) tt
 
   pub bounds-hold : (i : ℕ) (bs : List Bound) (cells : Cells) → Read i bs cells
-      → All (Holds w j) (atoms i bs) → holds_all bs cells ≡ true
+      → AllByRecursion (Holds w j) (atoms i bs) → holds_all bs cells ≡ true
   bounds-hold i [] cells read h = refl
   bounds-hold i (b ∷ bs) [] read h =
       let parts = all-parts (Holds w j) _ (atoms (suc i) bs) h in
@@ -64,7 +64,7 @@ module _ (w : TimedWord) (j : ℕ) where
       and_from _ _ (⊎_elim (any-holds b v) (λ c. bound-holds i b v c parts.0) read.0) (bounds-hold (suc i) bs cells read.1 parts.1)
 
   pub constraint-holds : (i : ℕ) (bs : List Bound) (cells : Cells) → Read i bs cells
-      → holds_all bs cells ≡ true → All (Holds w j) (atoms i bs)
+      → holds_all bs cells ≡ true → AllByRecursion (Holds w j) (atoms i bs)
   constraint-holds i [] cells read h = tt
   constraint-holds i (b ∷ bs) [] read h =
       let parts = and_parts _ _ h in

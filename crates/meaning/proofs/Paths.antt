@@ -2,7 +2,7 @@
 use Rattle.std.proofs.Common.{◌≡◌, ℕ, zero, suc, ◌+◌, ◌<◌, ◌≤◌, true, List, [], ◌∷◌, length, get_or, None, sym, refl, ap, ◌∙◌, subst, inl, inr, ⊎_elim, zero-add, arith}
 use mathlib.Core.List.{Memᴰ}
 use Rattle.std.proofs.lemmas.Bool.{cases_lt}
-use Rattle.std.specs.List.{AllByRecursion as All}
+use Rattle.std.specs.List.{AllByRecursion}
 use Rattle.meaning.specs.declared.values.Pair.{Pair}
 use Rattle.meaning.specs.declared.values.Bound.TheVariants.{Any}
 use Rattle.meaning.specs.declared.values.Edge.{Edge}
@@ -101,7 +101,7 @@ module _ (t : Contents) (W : TimedWord) (n : ℕ) (within : Within n t.edges) wh
         mem,
         ap (λ a. a.source) (sym is) ∙ first.source ∙ seg.begins,
         ap (λ a. a.event) (sym is) ∙ first.event ∙ event-here along,
-        bounds-hold W i 0 e.bounds _ (read_here along e mem) (subst (λ a. All (Holds W i) a.constraint) is first.constraint),
+        bounds-hold W i 0 e.bounds _ (read_here along e mem) (subst (λ a. AllByRecursion (Holds W i) a.constraint) is first.constraint),
         path-from-segment w (suc i) (T + p.wait) _ e.target q (along-more along) tail,
       )
 

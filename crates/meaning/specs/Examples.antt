@@ -1,6 +1,6 @@
 -- Worked examples, stated with the published definitions.
 use Rattle.std.specs.Prelude.{ℕ, true, false, List, [], ◌∷◌, Some, None, codes, Option}
-use Rattle.std.specs.List.{AllByRecursion as All}
+use Rattle.std.specs.List.{AllByRecursion}
 use Rattle.meaning.specs.declared.values.Pair.{Pair}
 use Rattle.meaning.specs.declared.values.Bound.{Bound}
 use Rattle.meaning.specs.declared.values.Bound.TheVariants.{Any, Never, AtLeast, Between}
@@ -11,7 +11,7 @@ use Rattle.meaning.specs.Tables.{Contents, tests, Behaviour}
 
 -- a bound holds of a clock's value
 abbrev pub Allows : Bound → Option ℕ → Type 0
-Allows b v = All (λ t. Passes t v) (tests b)
+Allows b v = AllByRecursion (λ t. Passes t v) (tests b)
 
 -- The events of the examples: open is 0, steam is 1.
 abbrev pub open' : ℕ → Pair

@@ -1,7 +1,7 @@
 -- Event-recording automata and the timed words that they accept, as the literature defines them, at whole ticks.
 -- Nothing of this product stands here, and nothing is assumed.
 use Rattle.std.specs.Prelude.{◌≡◌, ℕ, suc, ◌+◌, ◌<◌, ◌≤◌, List, Some, None, Option, ◌≢◌}
-use Rattle.std.specs.List.{AllByRecursion as All}
+use Rattle.std.specs.List.{AllByRecursion}
 
 -- A timed word (a₀, t₀) (a₁, t₁) …: at each position below its size an event and a time stamp, and no stamp is below the one before it.
 -- What stands from the size on does not count.
@@ -59,7 +59,7 @@ pub record Step (A : Automaton) (w : TimedWord) (i : ℕ) (e : Arc) (from to : �
   pub source : e.source ≡ from
   pub target : e.target ≡ to
   pub event : e.event ≡ w.event i
-  pub constraint : All (Holds w i) e.constraint
+  pub constraint : AllByRecursion (Holds w i) e.constraint
 
 -- A computation over a timed word: locations ℓ₀ ℓ₁ … and edges e₀ e₁ …, which begin at a start and take the pairs in turn.
 pub record Computation (A : Automaton) (w : TimedWord) : Type 0 where

@@ -2,7 +2,7 @@
 -- Words are lists of any length, and waits numbers of any size.
 use Rattle.std.specs.Prelude.{◌≡◌, ℕ, zero, suc, ◌+◌, ◌<◌, ◌≤◌, List, [], ◌∷◌, length, None, Option, slice_index_or}
 use Rattle.std.proofs.Common.{arith}
-use Rattle.std.specs.List.{AllByRecursion as All}
+use Rattle.std.specs.List.{AllByRecursion}
 use Rattle.meaning.specs.declared.values.Pair.{Pair}
 use Rattle.meaning.specs.Published.{TimedWord, Clock}
 
@@ -29,7 +29,7 @@ timed w = record { size = length w; event = event_at w; time = time_at w; ordere
 -- A word over n events has at least one pair, and each of its events is below n.
 -- Nothing else in this repository asks for at least one pair.
 abbrev pub Word : ℕ → List Pair → Type 0
-Word n w = (0 < length w) × All (λ p. p.event < n) w
+Word n w = (0 < length w) × AllByRecursion (λ p. p.event < n) w
 
 -- The reading at position j of a word over n events: each of the first n cells is the value of that event's clock, and the others are never.
 pub record Reads (n : ℕ) (w : List Pair) (j : ℕ) (cells : List (Option ℕ)) : Type 0 where
