@@ -15,7 +15,7 @@ use Rattle.formats.specs.Faults.{Fails}
 use Rattle.formats.specs.Least.{Refused}
 use Rattle.formats.specs.TableText.{head_is, tick_head}
 use Rattle.formats.specs.Walk.{Line}
-use Rattle.formats.specs.DistanceText.{Distances, DistanceParts, distance_at, distance_due, distance_format, distance_from, distance_step_at, distance_tick_limits, distances_held, distances_read, lawful_distance, lawful_distances, line_head, line_limits, read_distances, with_distance, with_distance_tick, IsDistances, OnlyDistances, DistancesOrFault}
+use Rattle.formats.specs.DistanceText.{Distances, DistanceParts, distance_at, distance_due, distance_format, distance_from, distance_step_at, distance_tick_limits, distances_held, distances_read, lawful_between, lawful_distance, line_head, line_limits, read_distances, with_distance, with_distance_tick, IsDistances, OnlyDistances, DistancesOrFault}
 use Rattle.formats.proofs.Least.{Judges, head-judges, row-judges}
 use Rattle.formats.proofs.Laws.{head-known, taken-is-only, not-read, one_of_two}
 use Rattle.formats.proofs.DistanceRead.{taken-is-written}
@@ -34,7 +34,7 @@ lines-of-more n m more (d ∷ ds) h =
     (and_from _ _ (and_from _ _ (lt-ltb d.on m (omega (arith, on, more))) (lt-ltb d.since m (omega (arith, since, more)))) parts.1)
     (lines-of-more n m more ds both.1)
 
-pub lawful-for-more : (n m : ℕ) → n ≤ m → (d : Distances) → lawful_distances n d ≡ true → lawful_distances m d ≡ true
+pub lawful-for-more : (n m : ℕ) → n ≤ m → (d : Distances) → lawful_between n d ≡ true → lawful_between m d ≡ true
 lawful-for-more n m more d h =
     let both = and_parts (leb 1 d.tick && leb d.tick 60000) _ h in
     let rest = and_parts (leb (length d.lines) 16) _ both.1 in

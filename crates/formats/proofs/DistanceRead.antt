@@ -127,7 +127,7 @@ module _ (names : List (List ℕ)) where
   -- ---- the whole text
 
   finished : (stage : DistanceStage) (s : DistanceParts) → stage ≡ LineRows → GoodAt stage s
-      → (so_far_at stage s ≡ distance_lines names (distances_held s)) × (lawful_distances (length names) (distances_held s) ≡ true)
+      → (so_far_at stage s ≡ distance_lines names (distances_held s)) × (lawful_distances names (distances_held s) ≡ true)
   finished TickHead s e good = absurd (let z : ◌≡◌ {A = ℕ} 0 1 = cc in omega arith)
   finished TickRows s e good = absurd (let z : ◌≡◌ {A = ℕ} 0 1 = cc in omega arith)
   finished LineHead s e good = absurd (let z : ◌≡◌ {A = ℕ} 0 1 = cc in omega arith)
@@ -137,7 +137,7 @@ module _ (names : List (List ℕ)) where
 
   -- A text that is taken is the text of the distances that are read, which are lawful; it is read to its end.
   pub taken-is-written : (t : List ℕ) (s : DistanceParts) → read_distances names t ≡ Ok s
-      → (t ≡ distance_text names (distances_held s)) × (lawful_distances (length names) (distances_held s) ≡ true) × (s.stage ≡ LineRows)
+      → (t ≡ distance_text names (distances_held s)) × (lawful_distances names (distances_held s) ≡ true) × (s.stage ≡ LineRows)
   taken-is-written t s h =
       let all = taken-was-walked 32768 (distance_step names) distance_start (λ p before. Kept before p) (λ p. p.stage ≡ LineRows) (refl, (refl, refl))
       (λ p q before l now taken. subst (λ x. Kept (x ++ (l.bytes ∷ [])) q) now.0 (keeps p.stage p q l now.1 taken))

@@ -34,7 +34,7 @@ distance-suits names d h =
 abbrev so_far : ℕ → DistanceStage → List Distance → DistanceParts
 so_far tick stage ds = record { stage = stage; ticks = tick ∷ []; lines = ds }
 
-module _ (names : List (List ℕ)) (named : every lawful_name names ≡ true) (apart : different names ≡ true) (d : Distances) (h : lawful_distances (length names) d ≡ true) where
+module _ (names : List (List ℕ)) (named : every lawful_name names ≡ true) (apart : different names ≡ true) (d : Distances) (h : lawful_distances names d ≡ true) where
   parts : ((leb 1 d.tick && leb d.tick 60000) ≡ true) × ((leb (length d.lines) 16 && every (lawful_distance (length names)) d.lines) ≡ true)
   parts = and_parts (leb 1 d.tick && leb d.tick 60000) _ h
 

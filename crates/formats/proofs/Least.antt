@@ -11,7 +11,7 @@ use Rattle.rows.specs.declared.cell.WordFault.{WordFault}
 use Rattle.rows.specs.declared.cell.WordFault.TheVariants.{Misfit, OutOfRange}
 use Rattle.rows.proofs.Outcomes.{never-ok, same-from-ok}
 use Rattle.formats.specs.declared.fault.Refusal.{Refusal}
-use Rattle.formats.specs.Faults.{line_number, row_fault}
+use Rattle.formats.specs.Faults.{word_number}
 use Rattle.formats.specs.Walk.{Line, Limits, empty, misspaced, lacks_sheet, head_step, row_step, row_gives, line_here, at_line, walk, checked, reading}
 use Rattle.formats.specs.Least.{cell_wrong, said_in, word_wrong, Due, head_due, row_due, ends_sheet, LineWrong, Format, InLines, Faulty, Least}
 
@@ -29,7 +29,7 @@ pub record FirstWord (cs : List Column) (names : List (List ℕ)) (before : ℕ)
   pub first : (k m : ℕ) → word_wrong cs names before ws k ≡ Some m → place ≤ k
 
 pub words-fail : (cs : List Column) (names : List (List ℕ)) (before : ℕ) (ws : List (List ℕ)) → length ws ≡ length cs → (f : WordFault) → cells_of cs names before ws ≡ Err f
-    → FirstWord cs names before ws (line_number (row_fault f))
+    → FirstWord cs names before ws (word_number f)
 words-fail [] names before [] size f h = never-err [] f h
 words-fail [] names before (w ∷ ws) size f h = absurd (omega (arith, size))
 words-fail (c ∷ cs) names before [] size f h = absurd (omega (arith, size))
@@ -43,7 +43,7 @@ words-fail (c ∷ cs) names before (w ∷ ws) size f h =
         g' : ◌≡◌ {A = Result (List Cell) WordFault} (Err e) (Err f)
         g' = let same : e ≡ f = cc in ap Err same
 
-    later : (cell : Cell) → cell_of c names before w ≡ Ok cell → FirstWord cs names (number_in cell) ws (line_number (row_fault f)) → FirstWord (c ∷ cs) names before (w ∷ ws) (line_number (row_fault f))
+    later : (cell : Cell) → cell_of c names before w ≡ Ok cell → FirstWord cs names (number_in cell) ws (word_number f) → FirstWord (c ∷ cs) names before (w ∷ ws) (word_number f)
     later cell e rest =
         let same : said_in (cell_of c names before w) ≡ number_in cell = ap said_in e in
         record { place = suc rest.place; fault = ap (λ b. word_wrong cs names b ws rest.place) same ∙ rest.fault; first = first' same }
@@ -53,13 +53,13 @@ words-fail (c ∷ cs) names before (w ∷ ws) size f h =
         first' same (suc k) m g = omega (arith, rest.first k m (ap (λ b. word_wrong cs names b ws k) (sym same) ∙ g))
 
     go : (r : Result Cell WordFault) → cell_of c names before w ≡ r
-        → ((cell : Cell) → cells_of cs names (number_in cell) ws ≡ Err f → FirstWord cs names (number_in cell) ws (line_number (row_fault f)))
+        → ((cell : Cell) → cells_of cs names (number_in cell) ws ≡ Err f → FirstWord cs names (number_in cell) ws (word_number f))
         → and_then r (λ cell. and_then (cells_of cs names (number_in cell) ws) (λ cells. Ok (cell ∷ cells))) ≡ Err f
-        → FirstWord (c ∷ cs) names before (w ∷ ws) (line_number (row_fault f))
+        → FirstWord (c ∷ cs) names before (w ∷ ws) (word_number f)
     go (Ok cell) e on g = later cell e (on cell (inner cell (cells_of cs names (number_in cell) ws) g))
     go (Err x) e on g =
         let same : x ≡ f = cc in
-        record { place = 0; fault = ap cell_wrong e ∙ ap (λ y. Some (line_number (row_fault y))) same; first = λ k m _. omega arith }
+        record { place = 0; fault = ap cell_wrong e ∙ ap (λ y. Some (word_number y)) same; first = λ k m _. omega arith }
 
 pub words-fine : (cs : List Column) (names : List (List ℕ)) (before : ℕ) (ws : List (List ℕ)) (cells : List Cell) → cells_of cs names before ws ≡ Ok cells
     → (k m : ℕ) → word_wrong cs names before ws k ≡ Some m → ⊥
@@ -183,7 +183,7 @@ module _ {S : Type 0} (limits : Limits) (count : ℕ) (kind : RowKind) (names : 
   pub row-judges : Judges due l (row_step limits count kind names l next closed)
   row-judges = go (ends_sheet limits l) refl
     where
-      words-judged : (r : Result (List Cell) WordFault) → (n : ℕ) → row_gives r next ≡ Err n → (f : WordFault) × (r ≡ Err f) × (n ≡ line_number (row_fault f))
+      words-judged : (r : Result (List Cell) WordFault) → (n : ℕ) → row_gives r next ≡ Err n → (f : WordFault) × (r ≡ Err f) × (n ≡ word_number f)
       words-judged (Ok cells) n h = never-err _ n h
       words-judged (Err Misfit) n h = (Misfit, refl, (let same : n ≡ 5 = cc in same))
       words-judged (Err OutOfRange) n h = (OutOfRange, refl, (let same : n ≡ 6 = cc in same))

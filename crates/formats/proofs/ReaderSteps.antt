@@ -18,14 +18,25 @@ use Rattle.formats.specs.declared.distance.DistanceStage.TheVariants.{LineRows}
 use Rattle.formats.specs.DistanceText.{DistanceParts, distance_cells, distance_from, distance_step_at, line_limits, with_distance}
 use Rattle.formats.proofs.DistanceRead.{distance-row}
 use Rattle.formats.proofs.Columns.{tick-row, place-row, edge_row}
-use Rattle.formats.proofs.Steps.{some_row, row-taken, row_read, row-fails, row-natural, sheet-ended}
+use Rattle.std.specs.Option.{option_map}
+use Rattle.formats.specs.Faults.{Agrees}
+use Rattle.formats.specs.EntryLines.{Says}
+use Rattle.formats.specs.declared.fault.LineFault.{LineFault}
+use Rattle.formats.proofs.Steps.{agrees-after, some_row, row-taken, row_read, row-fails, row-natural, sheet-ended}
 
 abbrev pub Judged : Limits → ℕ → RowKind → List (List ℕ) → Line → Result (Option Row) ℕ
 Judged limits count kind names l = row_step limits count kind names l some_row None
 
 -- what the judgement is, once it is known which way it went
-pub judged-as : (d : Result (Option Row) ℕ) (j k : Option Row) → Ok j ≡ d → j ≡ k → d ≡ Ok k
-judged-as d j k h e = sym h ∙ ap Ok e
+pub judged-as : (d : Result (Option Row) ℕ) (j k : Option Row) → d ≡ Ok j → j ≡ k → d ≡ Ok k
+judged-as d j k h e = h ∙ ap Ok e
+
+-- what an answer says of a row, it says of the row's cells
+pub cells-said : (limits : Limits) (count : ℕ) (kind : RowKind) (names : List (List ℕ)) (l : Line) (r : Result (Option Row) LineFault) → Says r (Judged limits count kind names l)
+    → Agrees (option_map (λ x. x.cells)) r (row_step limits count kind names l (λ cells. Some (padded cells)) None)
+cells-said limits count kind names l r h =
+    let cells : Option Row → Option (List Cell) = option_map (λ x. x.cells) in
+    subst (Agrees cells r) (sym (row-natural limits count kind names l some_row None cells)) (agrees-after cells r (Judged limits count kind names l) h)
 
 -- ---- the tick, as the code judges it
 

@@ -1,6 +1,7 @@
 -- When a line is taken where it stands, and what the walk then goes on with. Assumes nothing.
 use Rattle.std.proofs.Common.{◌≡◌, ℕ, suc, ◌+◌, ◌<◌, ◌≤◌, Bool, true, false, cond, ◌&&◌, eqb, ltb, leb, ◌⊎◌, List, [], ◌∷◌, ◌++◌, length, Some, None, Ok, Err, Option, Result, sym, refl, ap, ◌∙◌, subst, inl, inr, append_assoc, append-nil, arith}
 use Rattle.std.proofs.lemmas.Bool.{eqb-true, leb-false, ltb-false, and_parts, and_from, lt-leb, le-ltb, lt-ltb, ltb-true, and_left, ne_eqb}
+use Rattle.std.specs.Option.{option_map}
 use Rattle.rows.specs.Rows.{and_then, row_of, row_result, padded}
 use Rattle.rows.specs.declared.cell.Row.{Row}
 use Rattle.rows.proofs.Outcomes.{never-ok, same-from-ok}
@@ -9,7 +10,9 @@ use Rattle.rows.specs.declared.cell.RowKind.{RowKind}
 use Rattle.rows.specs.declared.cell.WordFault.{WordFault}
 use Rattle.rows.specs.declared.cell.WordFault.TheVariants.{Misfit, OutOfRange}
 use Rattle.formats.specs.declared.fault.Refusal.{Refusal}
-use Rattle.formats.specs.Faults.{Fails, line_number, row_fault}
+use Rattle.formats.specs.Faults.{Agrees, Fails, line_number, row_fault}
+use Rattle.formats.specs.EntryLines.{Says}
+use Rattle.formats.specs.declared.fault.LineFault.{LineFault}
 use Rattle.formats.specs.Walk.{Line, Limits, empty, misspaced, lacks_sheet, head_step, row_step, row_gives, line_here, at_line, walk}
 
 -- a test that would refuse failed
@@ -143,11 +146,11 @@ pub row-given : (r : Result (List Cell) WordFault) (row : Row) → Ok row ≡ ro
 row-given (Ok cells) row h = let e : row ≡ record { cells = padded cells } = cc in ap (λ x. Ok (Some x)) e
 row-given (Err e) row h = absurd (let z : ◌≡◌ {A = ℕ} 0 1 = cc in omega arith)
 
-pub row-refused : {S : Type 0} (next : List Cell → S) (r : Result (List Cell) WordFault) (e : WordFault) → Err e ≡ row_result r → Err (line_number (row_fault e)) ≡ row_gives r next
+pub row-refused : {S : Type 0} (next : List Cell → S) (r : Result (List Cell) WordFault) (e : WordFault) → Err e ≡ row_result r → Some (row_gives r next) ≡ option_map Err (line_number (row_fault e))
 row-refused next (Ok cells) e h = absurd (let z : ◌≡◌ {A = ℕ} 0 1 = cc in omega arith)
-row-refused next (Err f) e h = let same : e ≡ f = cc in ap (λ x. Err (line_number (row_fault x))) same ∙ told f
+row-refused next (Err f) e h = let same : f ≡ e = cc in ap (λ x. Some (row_gives (Err x) next)) same ∙ told e
   where
-    told : (f : WordFault) → Err (line_number (row_fault f)) ≡ row_gives (Err f) next
+    told : (f : WordFault) → Some (row_gives (Err f) next) ≡ option_map Err (line_number (row_fault f))
     told Misfit = refl
     told OutOfRange = refl
 
@@ -286,6 +289,34 @@ pub fails-through : {S : Type 0} (step : S → Line → Result S ℕ) (whole : B
 fails-through step whole s k l ls d None on line is h = tt
 fails-through step whole s k l ls d (Some r) on line is h =
     sym on ∙ ap (λ x. and_then x (λ next. walk step whole next (suc k) ls)) (ap (λ y. at_line k (step s y)) (sym is) ∙ h)
+
+-- ---- an answer about a line, and what is defined
+
+-- what fails with every number that another fails with, is said of as that is
+pub says-so : {X S : Type 0} (d : Result X ℕ) (d' : Result S ℕ) (o : Option ℕ) → Some d ≡ option_map Err o → ((n : ℕ) → d ≡ Err n → d' ≡ Err n) → Some d' ≡ option_map Err o
+says-so d d' None h on = absurd (let z : ◌≡◌ {A = ℕ} 0 1 = cc in omega arith)
+says-so d d' (Some n) h on = ap Some (on n (let same : d ≡ Err n = cc in same))
+
+pub fails-said : {S : Type 0} (d : Result S ℕ) (o : Option ℕ) → Some d ≡ option_map Err o → Fails d o
+fails-said d None h = tt
+fails-said d (Some n) h = let same : d ≡ Err n = cc in same
+
+pub fails-on : {X S : Type 0} (d : Result X ℕ) (d' : Result S ℕ) → ((n : ℕ) → d ≡ Err n → d' ≡ Err n) → (o : Option ℕ) → Fails d o → Fails d' o
+fails-on d d' on None h = tt
+fails-on d d' on (Some n) h = on n h
+
+pub fails-so : {X S : Type 0} (d : Result X ℕ) (d' : Result S ℕ) (o : Option ℕ) → Some d ≡ option_map Err o → ((n : ℕ) → d ≡ Err n → d' ≡ Err n) → Fails d' o
+fails-so d d' o h on = fails-said d' o (says-so d d' o h on)
+
+-- what an answer says is said of what goes by it
+pub agrees-after : {X S : Type 0} (f : X → S) (r : Result X LineFault) (d : Result X ℕ) → Says r d → Agrees f r (and_then d (λ x. Ok (f x)))
+agrees-after f (Ok x) d h = ap (λ e. and_then e (λ y. Ok (f y))) h
+agrees-after f (Err e) d h = fails-so d (and_then d (λ x. Ok (f x))) (line_number e) h (λ n g. ap (λ y. and_then y (λ x. Ok (f x))) g)
+
+-- a fault of a line as one of the text in which it stands
+pub fails-at-line : {S : Type 0} (k : ℕ) (d : Result S ℕ) (o : Option ℕ) (q : Option Refusal) → q ≡ option_map (λ n. record { number = n; line = k }) o → Fails d o → Fails (at_line k d) q
+fails-at-line k d None q is h = subst (Fails (at_line k d)) (sym is) tt
+fails-at-line k d (Some n) q is h = subst (Fails (at_line k d)) (sym is) (ap (at_line k) h)
 
 -- ---- a step that goes by what another gives
 

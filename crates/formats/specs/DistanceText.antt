@@ -23,9 +23,14 @@ pub record Distances : Type 0 where
 abbrev pub lawful_distance : ℕ → Distance → Bool
 lawful_distance n d = (nat_lt d.on n && nat_lt d.since n) && (nat_le d.least d.most && nat_le d.most 250)
 
--- A tick of 1 to 60,000 milliseconds, and at most 16 distances between two of the n events.
-abbrev pub lawful_distances : ℕ → Distances → Bool
-lawful_distances n d = (nat_le 1 d.tick && nat_le d.tick 60000) && (nat_le (length d.lines) 16 && every (lawful_distance n) d.lines)
+-- A tick of 1 to 60,000 milliseconds, and at most 16 distances.
+abbrev pub lawful_distances : List (List ℕ) → Distances → Bool
+lawful_distances names d =
+    (nat_le 1 d.tick && nat_le d.tick 60000) && (nat_le (length d.lines) 16 && every (lawful_distance (length names)) d.lines)
+
+-- The same between two of n events, whatever their names.
+abbrev pub lawful_between : ℕ → Distances → Bool
+lawful_between n d = (nat_le 1 d.tick && nat_le d.tick 60000) && (nat_le (length d.lines) 16 && every (lawful_distance n) d.lines)
 
 -- the distances of a list that nothing was read into
 abbrev pub blank_distances : Distances
@@ -120,7 +125,7 @@ distance_format names = record { most = 32768; start = distance_start; due = λ 
 
 -- The text of lawful distances.
 abbrev pub IsDistances : List (List ℕ) → List ℕ → Distances → Type 0
-IsDistances names t d = (lawful_distances (length names) d ≡ true) × (distance_text names d ≡ t)
+IsDistances names t d = (lawful_distances names d ≡ true) × (distance_text names d ≡ t)
 
 -- The text of these distances, and of no others.
 abbrev pub OnlyDistances : List (List ℕ) → List ℕ → Distances → Type 0

@@ -19,25 +19,26 @@ line_in l = record { bytes = l.bytes.now; last = l.last; ended = l.ended }
 abbrev pub limits_in : SheetLimits → Limits
 limits_in s = record { least = s.least; most = s.most; more = s.more }
 
--- The number of what is wrong with a line.
-abbrev pub line_number : LineFault → ℕ
-line_number line.Spacing = 3
-line_number line.Head = 4
-line_number line.Word = 5
-line_number line.Range = 6
-line_number line.Count = 7
+-- The number of what is wrong with a line; want of memory has none.
+abbrev pub line_number : LineFault → Option ℕ
+line_number line.Spacing = Some 3
+line_number line.Head = Some 4
+line_number line.Word = Some 5
+line_number line.Range = Some 6
+line_number line.Count = Some 7
+line_number line.Memory = None
 
 -- what a row's words make of its line
 abbrev pub row_fault : WordFault → LineFault
 row_fault Misfit = line.Word
 row_fault OutOfRange = line.Range
 
--- an answer about a line, with the number in place of the fault
-abbrev pub told : {X : Type 0} → Result X LineFault → Result X ℕ
-told (Ok x) = Ok x
-told (Err e) = Err (line_number e)
+-- the number of what is wrong with a word
+abbrev pub word_number : WordFault → ℕ
+word_number Misfit = 5
+word_number OutOfRange = 6
 
--- The refusal of a text that a fault tells; want of memory tells none.
+-- The refusal of a text that a fault tells.
 abbrev pub refusal : SheetFault → Option Refusal
 refusal (sheet.Text f) = Some (record { number = text_number f; line = text_line f })
 refusal (sheet.Head k) = Some (record { number = 4; line = k })
@@ -51,7 +52,12 @@ abbrev pub Fails : {S E : Type 0} → Result S E → Option E → Type 0
 Fails d None = Unit {0}
 Fails d (Some e) = d ≡ Err e
 
--- An answer about a text agrees with what is defined, or memory was wanting.
-abbrev pub Agrees : {X S : Type 0} → (X → S) → Result X SheetFault → Result S Refusal → Type 0
+-- An answer about a line agrees with what is defined, or memory was wanting.
+abbrev pub Agrees : {X S : Type 0} → (X → S) → Result X LineFault → Result S ℕ → Type 0
 Agrees f (Ok x) d = d ≡ Ok (f x)
-Agrees f (Err e) d = Fails d (refusal e)
+Agrees f (Err e) d = Fails d (line_number e)
+
+-- The same of an answer about a text.
+abbrev pub AgreesOnText : {X S : Type 0} → (X → S) → Result X SheetFault → Result S Refusal → Type 0
+AgreesOnText f (Ok x) d = d ≡ Ok (f x)
+AgreesOnText f (Err e) d = Fails d (refusal e)

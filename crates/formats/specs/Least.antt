@@ -7,7 +7,7 @@ use Rattle.rows.specs.declared.cell.Column.{Column}
 use Rattle.rows.specs.declared.cell.RowKind.{RowKind}
 use Rattle.rows.specs.declared.cell.WordFault.{WordFault}
 use Rattle.formats.specs.declared.fault.Refusal.{Refusal}
-use Rattle.formats.specs.Faults.{line_number, row_fault}
+use Rattle.formats.specs.Faults.{word_number}
 use Rattle.formats.specs.Walk.{Line, Limits, empty, misspaced, lacks_sheet, line_here}
 
 -- ---- a word
@@ -15,7 +15,7 @@ use Rattle.formats.specs.Walk.{Line, Limits, empty, misspaced, lacks_sheet, line
 -- 5 or 6: the column does not take the word
 abbrev pub cell_wrong : Result Cell WordFault → Option ℕ
 cell_wrong (Ok cell) = None
-cell_wrong (Err fault) = Some (line_number (row_fault fault))
+cell_wrong (Err fault) = Some (word_number fault)
 
 -- the number that a word gives the column after it to compare with
 abbrev pub said_in : Result Cell WordFault → ℕ

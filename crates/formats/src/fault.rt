@@ -1,5 +1,6 @@
 ghost use Rattle.formats.specs.Faults.{line_number, refusal};
-ghost use Rattle.std.specs.Prelude.{◌≡◌, Some};
+ghost use Rattle.std.specs.Option.{option_map};
+ghost use Rattle.std.specs.Prelude.{◌≡◌};
 
 use texts::fault::TextFault;
 
@@ -33,12 +34,13 @@ pub enum LineFault {
     Word,
     Range,
     Count,
+    Memory,
 }
 
 impl LineFault {
     // The same as a fault of the text in which the line stands.
     pub fn at_line(&self, line: u32) -> SheetFault
-        ensures { refusal result ≡ Some (record { number = line_number self.now; line = line }) }
+        ensures { refusal result ≡ option_map (λ n. record { number = n; line = line }) (line_number self.now) }
     {
         match self {
             LineFault::Spacing => SheetFault::Text(TextFault::BadSpacing { line }),
@@ -46,6 +48,7 @@ impl LineFault {
             LineFault::Word => SheetFault::Word { line },
             LineFault::Range => SheetFault::Range { line },
             LineFault::Count => SheetFault::Count { line },
+            LineFault::Memory => SheetFault::Memory,
         }
     }
 }

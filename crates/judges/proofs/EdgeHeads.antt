@@ -7,12 +7,10 @@ use Rattle.clocks.specs.Letters.{lawful_name}
 use Rattle.tables.specs.Lawful.{different}
 use Rattle.rows.specs.Rows.{words_from}
 use Rattle.rows.proofs.Outcomes.{never-ok, same-from-ok}
-use Rattle.formats.specs.declared.fault.Refusal.{Refusal}
 use Rattle.formats.specs.Faults.{Fails}
 use Rattle.judges.specs.Heads.{NamesAfter, name_list, judged_names}
 use Rattle.formats.specs.TableText.{edge_head_wrong}
-use Rattle.formats.specs.Walk.{Line, misspaced, head_step, at_line}
-use Rattle.formats.proofs.Steps.{fails-as}
+use Rattle.formats.specs.Walk.{Line, misspaced, head_step}
 use Rattle.formats.proofs.Written.{last-sheet}
 
 -- a head that is judged by what is wrong with it
@@ -36,12 +34,13 @@ list_of ws names h = go (every lawful_name ws && different ws) h
     go true e = (refl, same-from-ok ws names e)
     go false e = never-ok 4 names e
 
-pub names-refused : (k : ℕ) (ws : List (List ℕ)) (o : Option Refusal) → Fails (at_line k (name_list ws)) o → Fails (at_line k (judged_names ws)) o
-names-refused k ws = fails-as k (name_list ws) (judged_names ws) (λ n h. go n (every lawful_name ws && different ws) refl h)
+pub names-refused : (ws : List (List ℕ)) (o : Option ℕ) → Fails (name_list ws) o → Fails (judged_names ws) o
+names-refused ws None h = tt
+names-refused ws (Some n) h = go (every lawful_name ws && different ws) refl h
   where
-    go : (n : ℕ) (b : Bool) → (every lawful_name ws && different ws) ≡ b → ◌≡◌ {A = Result (List (List ℕ)) ℕ} (cond b (Ok ws) (Err 4)) (Err n) → judged_names ws ≡ Err n
-    go n true e g = absurd (let z : ◌≡◌ {A = ℕ} 0 1 = cc in omega arith)
-    go n false e g = ap (λ b. cond (eqb (cond b (cond (leb 1 (length ws) && leb (length ws) 8) 0 7) 4) 0) (Ok ws) (Err (cond b (cond (leb 1 (length ws) && leb (length ws) 8) 0 7) 4))) e ∙ g
+    go : (b : Bool) → (every lawful_name ws && different ws) ≡ b → ◌≡◌ {A = Result (List (List ℕ)) ℕ} (cond b (Ok ws) (Err 4)) (Err n) → judged_names ws ≡ Err n
+    go true e g = absurd (let z : ◌≡◌ {A = ℕ} 0 1 = cc in omega arith)
+    go false e g = ap (λ b. cond (eqb (cond b (cond (leb 1 (length ws) && leb (length ws) 8) 0 7) 4) 0) (Ok ws) (Err (cond b (cond (leb 1 (length ws) && leb (length ws) 8) 0 7) 4))) e ∙ g
 
 counted-as : (ws : List (List ℕ)) (b : Bool) → (every lawful_name ws && different ws) ≡ true → (leb 1 (length ws) && leb (length ws) 8) ≡ b → judged_names ws ≡ cond b (Ok ws) (Err 7)
 counted-as ws true lawful e = λ i. cond (eqb (cond (lawful i) (cond (e i) 0 7) 4) 0) (Ok ws) (Err (cond (lawful i) (cond (e i) 0 7) 4))

@@ -1,5 +1,5 @@
 -- The claim of a row, and what a line of an entries text does to what has been read. Assumes nothing.
-use Rattle.std.proofs.Common.{◌≡◌, ℕ, zero, suc, ◌+◌, ◌-◌, ◌<◌, ◌≤◌, false, cond, ◌&&◌, eqb, leb, List, [], ◌∷◌, ◌++◌, map, length, get_or, take, drop, replicate, None, Ok, Err, Option, Result, sym, refl, ap, ◌∙◌, arith}
+use Rattle.std.proofs.Common.{◌≡◌, ℕ, zero, suc, ◌+◌, ◌-◌, ◌<◌, ◌≤◌, false, cond, ◌&&◌, eqb, leb, List, [], ◌∷◌, ◌++◌, map, length, get_or, take, drop, replicate, Some, None, Ok, Err, Option, Result, sym, refl, ap, ◌∙◌, arith}
 use Rattle.std.proofs.lemmas.List.{length-map, length-append, length-replicate, get_or_default}
 use Rattle.std.proofs.lemmas.Bool.{and_parts, eqb-true, lt-leb}
 use Rattle.rows.specs.Rows.{row_of, row_result, padded, number_in, claimed_in}
@@ -8,6 +8,7 @@ use Rattle.rows.specs.declared.cell.Cell.TheVariants.{Absent, Number}
 use Rattle.rows.specs.declared.cell.Row.{Row}
 use Rattle.rows.specs.declared.cell.RowKind.TheVariants.{Claim as Claim'}
 use Rattle.rows.specs.declared.cell.WordFault.{WordFault}
+use Rattle.std.specs.Option.{option_map}
 use Rattle.rows.proofs.Rows.{row-is-written}
 use Rattle.formats.specs.declared.claim.Claim.{Claim}
 use Rattle.formats.specs.Faults.{line_number, row_fault}
@@ -80,14 +81,15 @@ module _ (names : List (List ℕ)) (few : length names ≤ 8) (room count : ℕ)
       let some : leb room count ≡ false = lt-leb room count rest in
       λ i. cond (fine i) (Err 3) (cond (some i) (Err 7) (row_gives (row_of (Claim' (length names)) names l.bytes) (claim_from (length names))))
 
-  pub row-claims : (n : ℕ) → n ≡ length names → (row : Row) → Ok row ≡ row_result (row_of (Claim' n) names l.bytes) → Ok (claim_in row.cells) ≡ entry_row names room count l
-  row-claims n is row h = go (row_of (Claim' (length names)) names l.bytes) refl (h ∙ ap (λ k. row_result (row_of (Claim' k) names l.bytes)) is) ∙ sym row-comes
+  pub row-claims : (n : ℕ) → n ≡ length names → (row : Row) → Ok row ≡ row_result (row_of (Claim' n) names l.bytes) → entry_row names room count l ≡ Ok (claim_in row.cells)
+  row-claims n is row h = row-comes ∙ go (row_of (Claim' (length names)) names l.bytes) refl (h ∙ ap (λ k. row_result (row_of (Claim' k) names l.bytes)) is)
     where
-      go : (r : Result (List Cell) WordFault) → row_of (Claim' (length names)) names l.bytes ≡ r → Ok row ≡ row_result r → Ok (claim_in row.cells) ≡ row_gives r (claim_from (length names))
+      go : (r : Result (List Cell) WordFault) → row_of (Claim' (length names)) names l.bytes ≡ r → Ok row ≡ row_result r → row_gives r (claim_from (length names)) ≡ Ok (claim_in row.cells)
       go (Ok cells) e g =
           let same : row ≡ record { cells = padded cells } = cc in
-          ap Ok (ap (λ x. claim_in x.cells) same ∙ claim-of-row (length names) names l.bytes cells few e)
+          ap Ok (sym (claim-of-row (length names) names l.bytes cells few e) ∙ ap (λ x. claim_in x.cells) (sym same))
       go (Err f) e g = absurd (let z : ◌≡◌ {A = ℕ} 0 1 = cc in omega arith)
 
-  pub row-fails : (n : ℕ) → n ≡ length names → (f : WordFault) → Err f ≡ row_result (row_of (Claim' n) names l.bytes) → Err (line_number (row_fault f)) ≡ entry_row names room count l
-  row-fails n is f h = row-refused (claim_from (length names)) (row_of (Claim' (length names)) names l.bytes) f (h ∙ ap (λ k. row_result (row_of (Claim' k) names l.bytes)) is) ∙ sym row-comes
+  pub row-fails : (n : ℕ) → n ≡ length names → (f : WordFault) → Err f ≡ row_result (row_of (Claim' n) names l.bytes) → Some (entry_row names room count l) ≡ option_map Err (line_number (row_fault f))
+  row-fails n is f h =
+      ap Some row-comes ∙ row-refused (claim_from (length names)) (row_of (Claim' (length names)) names l.bytes) f (h ∙ ap (λ k. row_result (row_of (Claim' k) names l.bytes)) is)

@@ -1,6 +1,6 @@
 ghost use Rattle.formats.specs.EntriesText.{entry_head};
-ghost use Rattle.formats.specs.EntryLines.{claim_in, entry_gives, entry_row};
-ghost use Rattle.formats.specs.Faults.{line_in, told};
+ghost use Rattle.formats.specs.EntryLines.{Says, claim_in, entry_gives, entry_row};
+ghost use Rattle.formats.specs.Faults.{line_in};
 ghost use Rattle.formats.specs.TableText.{head_is};
 ghost use Rattle.formats.specs.Walk.{head_step};
 ghost use Rattle.texts.specs.Lines.{further_words};
@@ -71,7 +71,7 @@ fn claim_in(row: Row) -> Claim
 }
 
 fn head_line(names: &[Name], line: TextLine) -> Result<Option<Claim>, LineFault>
-    ensures { told result ≡ head_step 0 (head_is (entry_head (take 8 (map text names.now))) line.entry.bytes.now) (line_in line.entry) None }
+    ensures { Says result (head_step 0 (head_is (entry_head (take 8 (map text names.now))) line.entry.bytes.now) (line_in line.entry) None) }
 {
     if is_misspaced(line) {
         return Err(LineFault::Spacing);
@@ -83,7 +83,7 @@ fn head_line(names: &[Name], line: TextLine) -> Result<Option<Claim>, LineFault>
 }
 
 fn row_line(count: usize, room: usize, names: &[Name], line: TextLine) -> Result<Claim, LineFault>
-    ensures { told result ≡ entry_row (take 8 (map text names.now)) room count (line_in line.entry) }
+    ensures { Says result (entry_row (take 8 (map text names.now)) room count (line_in line.entry)) }
 {
     if is_misspaced(line) {
         return Err(LineFault::Spacing);
@@ -106,7 +106,7 @@ pub fn entry_line(
     names: &[Name],
     line: TextLine,
 ) -> Result<Option<Claim>, LineFault>
-    ensures { told result ≡ entry_gives (take 8 (map text names.now)) room stage count (line_in line.entry) }
+    ensures { Says result (entry_gives (take 8 (map text names.now)) room stage count (line_in line.entry)) }
 {
     match stage {
         EntryStage::Head => head_line(names, line),

@@ -1,7 +1,7 @@
 ghost use Rattle.judges.specs.Heads.{After, NamesAfter, name_list, judged_names};
 ghost use Rattle.formats.specs.Faults.{Agrees, line_in};
 ghost use Rattle.formats.specs.TableText.{edge_head_wrong};
-ghost use Rattle.formats.specs.Walk.{at_line, head_step};
+ghost use Rattle.formats.specs.Walk.{head_step};
 ghost use Rattle.rows.specs.Rows.{words_from};
 ghost use Rattle.clocks.specs.Letters.{lawful_name};
 ghost use Rattle.clocks.specs.Search.{first_of};
@@ -14,12 +14,11 @@ ghost use Rattle.std.specs.Str.{bytes_eq};
 use crate::judging::is_misspaced;
 use clocks::name::Name;
 use clocks::search::position;
-use formats::fault::SheetFault;
+use formats::fault::LineFault;
 use formats::line::TextLine;
 use rows::line::word_stop;
 use rows::word::is_word;
 use std::alloc::Global;
-use texts::fault::TextFault;
 
 // The place after the word at `from`, if that is the sought one.
 fn after_word(line: &[u8], from: usize, sought: &[u8]) -> Option<usize>
@@ -63,16 +62,16 @@ fn new_name(word: &[u8], names: &[Name]) -> Option<Name>
 }
 
 // The names from a place on, in memory of their own.
-fn names_from(heap: Global, line: TextLine, from: usize) -> Result<Vec<Name>, SheetFault>
-    ensures { Agrees (λ v. map text v.items) result (at_line line.entry.number (name_list (words_from line.entry.bytes.now from))) }
+fn names_from(heap: Global, line: &[u8], from: usize) -> Result<Vec<Name>, LineFault>
+    ensures { Agrees (λ v. map text v.items) result (name_list (words_from line.now from)) }
 {
     let mut names = Vec::new(heap);
     let mut at = from;
-    while at <= line.bytes.len() {
-        let end = word_stop(line.bytes, at);
-        match new_name(&line.bytes[at..end], names.as_slice()) {
+    while at <= line.len() {
+        let end = word_stop(line, at);
+        match new_name(&line[at..end], names.as_slice()) {
             Some(name) => names.push(name)?,
-            None => return Err(SheetFault::Head { line: line.number }),
+            None => return Err(LineFault::Head),
         }
         at = end + 1;
     }
@@ -80,27 +79,27 @@ fn names_from(heap: Global, line: TextLine, from: usize) -> Result<Vec<Name>, Sh
 }
 
 // A line that has to be the head of the edges, which is the last sheet: its names.
-pub fn judge_edge_head(heap: Global, line: TextLine) -> Result<Vec<Name>, SheetFault>
-    ensures { Agrees (λ v. map text v.items) result (at_line line.entry.number (head_step 0 (edge_head_wrong (words line.entry.bytes.now)) (line_in line.entry) (drop 3 (words line.entry.bytes.now)))) }
+pub fn judge_edge_head(heap: Global, line: TextLine) -> Result<Vec<Name>, LineFault>
+    ensures { Agrees (λ v. map text v.items) result (head_step 0 (edge_head_wrong (words line.entry.bytes.now)) (line_in line.entry) (drop 3 (words line.entry.bytes.now))) }
 {
     if is_misspaced(line) {
-        return Err(SheetFault::Text(TextFault::BadSpacing { line: line.number }));
+        return Err(LineFault::Spacing);
     }
     match names_place(line.bytes) {
-        None => Err(SheetFault::Head { line: line.number }),
-        Some(from) => match names_from(heap, line, from) {
+        None => Err(LineFault::Head),
+        Some(from) => match names_from(heap, line.bytes, from) {
             Err(fault) => Err(fault),
-            Ok(names) => counted(names, line.number),
+            Ok(names) => counted(names),
         },
     }
 }
 
 // No name, or over eight.
-fn counted(names: Vec<Name>, line: u32) -> Result<Vec<Name>, SheetFault>
-    ensures { (ws : List (List ℕ)) → name_list ws ≡ Ok (map text names.items) → Agrees (λ v. map text v.items) result (at_line line (judged_names ws)) }
+fn counted(names: Vec<Name>) -> Result<Vec<Name>, LineFault>
+    ensures { (ws : List (List ℕ)) → name_list ws ≡ Ok (map text names.items) → Agrees (λ v. map text v.items) result (judged_names ws) }
 {
     if names.is_empty() || names.len() > 8 {
-        return Err(SheetFault::Count { line });
+        return Err(LineFault::Count);
     }
     Ok(names)
 }

@@ -1,8 +1,10 @@
-ghost use Rattle.formats.specs.Faults.{told, line_in, limits_in, row_fault};
+ghost use Rattle.formats.specs.Faults.{Agrees, line_in, limits_in, row_fault};
+ghost use Rattle.formats.specs.EntryLines.{Says};
 ghost use Rattle.formats.specs.TableText.{head_is, tick_in, tick_judged};
 ghost use Rattle.formats.specs.Walk.{empty, misspaced, lacks_sheet, head_step, row_step};
 ghost use Rattle.rows.specs.Rows.{padded};
 ghost use Rattle.clocks.specs.Texts.{text};
+ghost use Rattle.std.specs.Option.{option_map};
 ghost use Rattle.std.specs.Prelude.{◌≡◌, ◌&&◌, ltb, map, take, if◌then◌else◌, Some, None, Ok, Err, nat_lt};
 
 use clocks::name::Name;
@@ -29,7 +31,8 @@ fn lacks_sheet(line: TextLine, more: usize) -> bool
 
 // A line that has to be this head, where `more` sheets follow.
 pub fn judge_head(line: TextLine, more: usize, head: &[u8]) -> Result<(), LineFault>
-    ensures { told result ≡ head_step more (head_is head.now line.entry.bytes.now) (line_in line.entry) (tt {0}) }
+    ensures says { Says result (head_step more (head_is head.now line.entry.bytes.now) (line_in line.entry) (tt {0})) }
+    ensures agrees { Agrees (λ _. tt {0}) result (head_step more (head_is head.now line.entry.bytes.now) (line_in line.entry) (tt {0})) }
 {
     if is_misspaced(line) {
         return Err(LineFault::Spacing);
@@ -49,7 +52,8 @@ fn ends_sheet(line: TextLine, limits: SheetLimits) -> bool
 
 // The empty line that ends a sheet.
 fn judge_end(line: TextLine, limits: SheetLimits, count: usize) -> Result<Option<Row>, LineFault>
-    ensures { told result ≡ (if line.entry.last then Err 4 else (if ltb count limits.least then Err 7 else Ok None)) }
+    ensures says { Says result (if line.entry.last then Err 4 else (if ltb count limits.least then Err 7 else Ok None)) }
+    ensures agrees { Agrees (option_map (λ x. x.cells)) result (if line.entry.last then Err 4 else (if ltb count limits.least then Err 7 else Ok None)) }
 {
     if line.last {
         return Err(LineFault::Head);
@@ -77,7 +81,8 @@ pub fn judge_row(
     kind: RowKind,
     names: &[Name],
 ) -> Result<Option<Row>, LineFault>
-    ensures { told result ≡ row_step (limits_in limits) count kind (take 8 (map text names.now)) (line_in line.entry) (λ cells. Some (record { cells = padded cells })) None }
+    ensures row { Says result (row_step (limits_in limits) count kind (take 8 (map text names.now)) (line_in line.entry) (λ cells. Some (record { cells = padded cells })) None) }
+    ensures cells { Agrees (option_map (λ x. x.cells)) result (row_step (limits_in limits) count kind (take 8 (map text names.now)) (line_in line.entry) (λ cells. Some (padded cells)) None) }
 {
     if ends_sheet(line, limits) {
         return judge_end(line, limits, count);
@@ -99,7 +104,7 @@ pub fn judge_row(
 
 // A line among rows of ticks: the tick, or none where an empty line ends the sheet.
 fn judge_ticks(line: TextLine, limits: SheetLimits, count: usize) -> Result<Option<u16>, LineFault>
-    ensures { told result ≡ tick_in (limits_in limits) count (line_in line.entry) }
+    ensures { Says result (tick_in (limits_in limits) count (line_in line.entry)) }
 {
     match judge_row(line, limits, count, RowKind::Tick, &[]) {
         Err(fault) => Err(fault),
@@ -112,7 +117,7 @@ fn judge_ticks(line: TextLine, limits: SheetLimits, count: usize) -> Result<Opti
 
 // A line among the rows of the tick sheet, which has one row and is followed by `more` sheets.
 pub fn judge_tick(line: TextLine, count: usize, more: usize) -> Result<Option<u16>, LineFault>
-    ensures { told result ≡ tick_judged more count (line_in line.entry) }
+    ensures { Says result (tick_judged more count (line_in line.entry)) }
 {
     let limits = SheetLimits {
         least: 1,

@@ -100,17 +100,23 @@ module _ (names : List (List ℕ)) (room : ℕ) where
       pub past-claim : (c : Claim) → entry_gives names room stage count (line_in line) ≡ Ok (Some c) → Reading t Rows (count + 1) to j (with_claim p c)
       past-claim c g = record { stage_is = refl; count-is = omega (arith, length_push p.claims c, r.count-is); walking = on (Some c) g }
 
+    stops : (n : ℕ) → entry_gives names room stage count (line_in line) ≡ Err n → walked (entry_step names room) entry_start t ≡ Err (record { number = n; line = k })
+    stops n g = fails (entry_step names room) entry_start t from k p r.walking to line h (Some (record { number = n; line = k })) (ap (at_line k) (step-here (Err n) g))
+
     -- a fault of the line is the refusal of the text
-    pub refused : (n : ℕ) → entry_gives names room stage count (line_in line) ≡ Err n → (f : Option Refusal) → f ≡ Some (record { number = n; line = k })
-        → Some (walked (entry_step names room) entry_start t) ≡ option_map Err f
-    refused n g f e =
-        ap Some (fails (entry_step names room) entry_start t from k p r.walking to line h (Some (record { number = n; line = k })) (ap (at_line k) (step-here (Err n) g)))
-        ∙ ap (option_map Err) (sym e)
+    pub refused : (o : Option ℕ) → Some (entry_gives names room stage count (line_in line)) ≡ option_map Err o
+        → (f : Option Refusal) → f ≡ option_map (λ n. record { number = n; line = k }) o → Some (walked (entry_step names room) entry_start t) ≡ option_map Err f
+    refused (Some n) g f e =
+        let is : entry_gives names room stage count (line_in line) ≡ Err n = cc in
+        ap Some (stops n is) ∙ ap (option_map Err) (sym e)
+    refused None g f e = absurd (let z : ◌≡◌ {A = ℕ} 0 1 = cc in omega arith)
 
     -- where the text is taken, no line is at fault
-    pub not-refused : (n : ℕ) → entry_gives names room stage count (line_in line) ≡ Err n → (s : EntryParts) → walked (entry_step names room) entry_start t ≡ Ok s → ⊥
-    not-refused n g s taken =
-        never-ok _ s (sym (fails (entry_step names room) entry_start t from k p r.walking to line h (Some (record { number = n; line = k })) (ap (at_line k) (step-here (Err n) g))) ∙ taken)
+    pub not-refused : (o : Option ℕ) → Some (entry_gives names room stage count (line_in line)) ≡ option_map Err o → (s : EntryParts) → walked (entry_step names room) entry_start t ≡ Ok s → ⊥
+    not-refused (Some n) g s taken =
+        let is : entry_gives names room stage count (line_in line) ≡ Err n = cc in
+        never-ok _ s (sym (stops n is) ∙ taken)
+    not-refused None g s taken = let z : ◌≡◌ {A = ℕ} 0 1 = cc in omega arith
 
 -- ---- the claims so far stand in front
 

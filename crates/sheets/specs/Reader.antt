@@ -4,7 +4,7 @@ use Rattle.std.specs.Option.{option_to_list}
 use Rattle.clocks.specs.Texts.{text}
 use Rattle.tables.specs.Held.{contents}
 use Rattle.tables.specs.declared.table.Table.{Table}
-use Rattle.formats.specs.declared.fault.Refusal.{Refusal}
+use Rattle.formats.specs.declared.fault.LineFault.{LineFault}
 use Rattle.formats.specs.declared.fault.SheetFault.{SheetFault}
 use Rattle.sheets.specs.declared.reader.TableReader.{TableReader}
 use Rattle.formats.specs.declared.stage.Stage.TheVariants.{EdgeRows}
@@ -20,8 +20,8 @@ abbrev pub Within : TableReader → Type 0
 Within r = r.stage ≡ EdgeRows → (length (vec_items r.places) ≤ 32) × (length (vec_items r.names) ≤ 8)
 
 -- The step is as defined, and leaves this.
-abbrev pub Advances : Result (Unit {0}) SheetFault → TableReader → Result Parts Refusal → Type 0
-Advances r after d = Agrees (λ _. parts_of after) r d
+abbrev pub Steps : Result (Unit {0}) LineFault → TableReader → Result Parts ℕ → Type 0
+Steps r after d = Agrees (λ _. parts_of after) r d
 
 -- The table that was read, or why there is none.
 abbrev pub TableRead : Result Table SheetFault → List ℕ → Type 0

@@ -2,7 +2,7 @@ ghost use Rattle.sheets.specs.Distances.{ListRead, ListTaken};
 ghost use Rattle.sheets.specs.DistanceReading.{distance_parts_of};
 ghost use Rattle.formats.specs.DistanceText.{DistancesOrFault, distance_start, distance_step, read_distances};
 ghost use Rattle.formats.specs.EntryLines.{event_names};
-ghost use Rattle.formats.specs.Faults.{Agrees};
+ghost use Rattle.formats.specs.Faults.{AgreesOnText};
 ghost use Rattle.formats.specs.Walk.{walk};
 ghost use Rattle.tables.specs.Held.{contents};
 ghost use Rattle.texts.specs.Lines.{ended, lines};
@@ -20,19 +20,22 @@ use texts::fault::TextFault;
 
 fn read_lines(heap: Global, text: &[u8], names: &[Name]) -> Result<DistanceReader, SheetFault>
     requires { length text.now ≤ 32768 }
-    ensures { Agrees distance_parts_of result (walk (distance_step (event_names names.now)) (ended text.now) distance_start 1 (lines text.now)) }
+    ensures { AgreesOnText distance_parts_of result (walk (distance_step (event_names names.now)) (ended text.now) distance_start 1 (lines text.now)) }
 {
     let mut reader = DistanceReader::new(heap);
     let mut cursor = Lines::new(text);
     while let Some(line) = cursor.next_line() {
-        reader.line(names, line)?;
+        match reader.line(names, line) {
+            Ok(()) => {}
+            Err(fault) => return Err(fault.at_line(line.number)),
+        }
     }
     Ok(reader)
 }
 
 // The lines of a text of the right length and bytes, if there are any.
 fn read_parts(heap: Global, text: &[u8], names: &[Name]) -> Result<DistanceReader, SheetFault>
-    ensures { Agrees distance_parts_of result (read_distances (event_names names.now) text.now) }
+    ensures { AgreesOnText distance_parts_of result (read_distances (event_names names.now) text.now) }
 {
     check_bytes(text, 32768)?;
     if text.is_empty() {

@@ -65,8 +65,9 @@ fn fill_claims(text: &[u8], names: &[Name], claims: &mut [Claim])
     }
 }
 
-// The claims are counted first, so that a refused text leaves the list as it was.
-fn read_claims(text: &[u8], names: &[Name], claims: &mut [Claim]) -> Result<usize, SheetFault>
+// The claims of the text go to the front of the list, and their number is the answer. They are counted first, so that a refused text
+// leaves the list as it was. Names past the eighth name no event.
+pub fn read_entries(text: &[u8], names: &[Name], claims: &mut [Claim]) -> Result<usize, SheetFault>
     ensures { Fills result (read_entries (event_names names.now) (length claims.old) text.now) claims.old claims.new }
 {
     match count_entries(text, names, claims.len()) {
@@ -79,9 +80,13 @@ fn read_claims(text: &[u8], names: &[Name], claims: &mut [Claim]) -> Result<usiz
 }
 
 // The claims that the text has for a table's events go to the front of the list, and their number is the answer.
-pub fn read_entries(text: &[u8], table: &Table, claims: &mut [Claim]) -> Result<usize, SheetFault>
+pub fn read_entries_of(
+    text: &[u8],
+    table: &Table,
+    claims: &mut [Claim],
+) -> Result<usize, SheetFault>
     ensures value { EntriesTaken result (contents table.now).names text.now claims.old claims.new }
     ensures one { EntriesOrFault (contents table.now).names (length claims.old) text.now }
 {
-    read_claims(text, table.names(), claims)
+    read_entries(text, table.names(), claims)
 }

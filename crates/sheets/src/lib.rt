@@ -7,7 +7,7 @@ pub mod entries;
 // Lists of distances.
 pub mod list;
 // The reader of table texts.
-mod reader;
+pub mod reader;
 // The reader of distance texts.
 mod spans;
 // Tables from their texts.

@@ -1,4 +1,4 @@
-ghost use Rattle.formats.specs.DistanceText.{lawful_distances};
+ghost use Rattle.formats.specs.DistanceText.{lawful_between};
 ghost use Rattle.std.specs.Prelude.{◌≡◌, ◌≤◌, true};
 
 use formats::distance::Distance;
@@ -13,5 +13,5 @@ pub struct DistanceList {
     lines: Vec<Distance>,
     ghost some: { 1 ≤ «events» },
     ghost few: { «events» ≤ 8 },
-    ghost lawful: { lawful_distances «events» (record { tick = tick; lines = lines.items }) ≡ true },
+    ghost lawful: { lawful_between «events» (record { tick = tick; lines = lines.items }) ≡ true },
 }

@@ -4,7 +4,7 @@ ghost use Rattle.tables.specs.Held.{contents};
 ghost use Rattle.tables.specs.Lawful.{lawful};
 ghost use Rattle.std.specs.Prelude.{◌≡◌, true};
 
-mod steps;
+pub mod steps;
 
 use clocks::name::Name;
 use formats::stage::Stage;
@@ -14,12 +14,12 @@ use tables::table::Table;
 
 // A table text as far as it has been read.
 #[derive(Drop)]
-pub(crate) struct TableReader {
-    stage: Stage,
-    tick: Option<u16>,
-    places: Vec<Place>,
-    names: Vec<Name>,
-    edges: Vec<Edge>,
+pub struct TableReader {
+    pub stage: Stage,
+    pub tick: Option<u16>,
+    pub places: Vec<Place>,
+    pub names: Vec<Name>,
+    pub edges: Vec<Edge>,
 }
 
 impl TableReader {

@@ -1,6 +1,6 @@
 ghost use Rattle.sheets.specs.DistanceReading.{distance_parts_of};
 ghost use Rattle.sheets.specs.Distances.{distances_in};
-ghost use Rattle.formats.specs.DistanceText.{distance_start, distances_held, lawful_distances};
+ghost use Rattle.formats.specs.DistanceText.{distance_start, distances_held, lawful_between};
 ghost use Rattle.std.specs.Prelude.{◌≡◌, ◌≤◌, true};
 
 use crate::list::DistanceList;
@@ -33,7 +33,7 @@ impl DistanceReader {
     pub(crate) fn list(self, events: u8) -> DistanceList
         requires some { 1 ≤ events }
         requires few { events ≤ 8 }
-        requires lawful { lawful_distances events (distances_held (distance_parts_of self)) ≡ true }
+        requires lawful { lawful_between events (distances_held (distance_parts_of self)) ≡ true }
         ensures value { distances_in result ≡ distances_held (distance_parts_of self) }
         ensures events { result.events ≡ events }
     {

@@ -1,4 +1,4 @@
-ghost use Rattle.formats.specs.Faults.{Agrees};
+ghost use Rattle.formats.specs.Faults.{AgreesOnText};
 ghost use Rattle.sheets.specs.Reader.{TableRead, parts_of};
 ghost use Rattle.formats.specs.TableText.{TableOrFault, TableTaken, read_table, start, table_step};
 ghost use Rattle.tables.specs.Held.{contents};
@@ -16,19 +16,22 @@ use texts::fault::TextFault;
 
 fn read_lines(heap: Global, text: &[u8]) -> Result<TableReader, SheetFault>
     requires { length text.now ≤ 32768 }
-    ensures { Agrees parts_of result (walk table_step (ended text.now) start 1 (lines text.now)) }
+    ensures { AgreesOnText parts_of result (walk table_step (ended text.now) start 1 (lines text.now)) }
 {
     let mut reader = TableReader::new(heap);
     let mut cursor = Lines::new(text);
     while let Some(line) = cursor.next_line() {
-        reader.line(heap, line)?;
+        match reader.line(heap, line) {
+            Ok(()) => {}
+            Err(fault) => return Err(fault.at_line(line.number)),
+        }
     }
     Ok(reader)
 }
 
 // The lines of a text of the right length and bytes, if there are any.
 fn read_parts(heap: Global, text: &[u8]) -> Result<TableReader, SheetFault>
-    ensures { Agrees parts_of result (read_table text.now) }
+    ensures { AgreesOnText parts_of result (read_table text.now) }
 {
     check_bytes(text, 32768)?;
     if text.is_empty() {

@@ -3,7 +3,7 @@ use crate::trying::{DISTANCES, UNTOUCHED, driver};
 use formats::claim::Claim;
 use meaning::values::{Bound, Edge};
 use sheets::distances::read_distances;
-use sheets::entries::read_entries;
+use sheets::entries::read_entries_of;
 use sheets::list::DistanceList;
 use sheets::table::read_table;
 use std::io;
@@ -98,7 +98,7 @@ fn show_claim(rt: &HostRuntime, claim: &Claim) -> io::Result<()> {
 // The third claim is left as it was.
 fn show_entries(rt: &HostRuntime, table: &Table) -> io::Result<()> {
     let mut claims = [UNTOUCHED; 3];
-    let _ = read_entries(ENTRIES, table, &mut claims);
+    let _ = read_entries_of(ENTRIES, table, &mut claims);
     for claim in &claims {
         show_claim(rt, claim)?;
     }

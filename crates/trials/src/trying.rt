@@ -2,7 +2,7 @@
 use formats::claim::Claim;
 use formats::fault::SheetFault;
 use sheets::distances::read_distances;
-use sheets::entries::read_entries;
+use sheets::entries::read_entries_of;
 use sheets::list::DistanceList;
 use sheets::table::read_table;
 use std::alloc::{AllocError, Global};
@@ -135,7 +135,7 @@ fn try_entries(rt: &HostRuntime, what: &str, text: &[u8], room: usize) -> anyhow
     let heap = rt.alloc();
     let table = driver(heap);
     let mut claims = vec![in heap; UNTOUCHED; room]?;
-    match read_entries(text, &table, claims.as_mut_slice()) {
+    match read_entries_of(text, &table, claims.as_mut_slice()) {
         Ok(count) => {
             let kept = untouched_after(claims.as_slice(), count);
             tell(rt, what, Ok(count), kept)

@@ -1,4 +1,4 @@
-ghost use Rattle.formats.specs.DistanceText.{blank_distances, lawful_distances};
+ghost use Rattle.formats.specs.DistanceText.{blank_distances, lawful_between};
 ghost use Rattle.sheets.specs.Distances.{distances_in};
 ghost use Rattle.std.specs.Prelude.{◌≡◌, ◌≤◌, true};
 
@@ -41,7 +41,7 @@ impl DistanceList {
     pub(crate) fn lawful(tick: u16, events: u8, lines: Vec<Distance>) -> DistanceList
         requires some { 1 ≤ events }
         requires few { events ≤ 8 }
-        requires lawful { lawful_distances events (record { tick = tick; lines = lines.items }) ≡ true }
+        requires lawful { lawful_between events (record { tick = tick; lines = lines.items }) ≡ true }
         ensures value { distances_in result ≡ record { tick = tick; lines = lines.items } }
         ensures events { result.events ≡ events }
     {

@@ -1,14 +1,14 @@
 ghost use Rattle.formats.specs.Faults.{line_in};
-ghost use Rattle.sheets.specs.Reader.{Advances, Within, parts_of};
+ghost use Rattle.sheets.specs.Reader.{Steps, Within, parts_of};
 ghost use Rattle.formats.specs.TableText.{head_is, at, step_at, table_step};
-ghost use Rattle.formats.specs.Walk.{at_line, head_step};
+ghost use Rattle.formats.specs.Walk.{head_step};
 ghost use Rattle.formats.specs.declared.stage.Stage.TheVariants.{TickHead, TickRows, PlaceHead, PlaceRows, EdgeHead, EdgeRows};
 ghost use Rattle.rows.specs.Rows.{bound_in};
 ghost use Rattle.std.specs.Prelude.{◌≡◌, ◌≤◌, map, length, drop};
 ghost use Rattle.std.specs.Option.{option_to_list};
 
 use crate::reader::TableReader;
-use formats::fault::SheetFault;
+use formats::fault::LineFault;
 use formats::line::{SheetLimits, TextLine};
 use formats::stage::Stage;
 use judges::heads::judge_edge_head;
@@ -48,15 +48,15 @@ impl TableReader {
         more: usize,
         head: &[u8],
         next: Stage,
-    ) -> Result<(), SheetFault>
-        ensures { Advances result self.new (at_line line.entry.number (head_step more (head_is head.now line.entry.bytes.now) (line_in line.entry) (at (parts_of self.old) next))) }
+    ) -> Result<(), LineFault>
+        ensures { Steps result self.new (head_step more (head_is head.now line.entry.bytes.now) (line_in line.entry) (at (parts_of self.old) next)) }
     {
         match judge_head(line, more, head) {
             Ok(()) => {
                 self.stage = next;
                 Ok(())
             }
-            Err(fault) => Err(fault.at_line(line.number)),
+            Err(fault) => Err(fault),
         }
     }
 
@@ -67,11 +67,11 @@ impl TableReader {
     }
 
     // The row of the tick, or the end of its sheet.
-    fn tick_row(&mut self, line: TextLine) -> Result<(), SheetFault>
-        ensures { Advances result self.new (at_line line.entry.number (step_at TickRows (parts_of self.old) (line_in line.entry))) }
+    fn tick_row(&mut self, line: TextLine) -> Result<(), LineFault>
+        ensures { Steps result self.new (step_at TickRows (parts_of self.old) (line_in line.entry)) }
     {
         match judge_tick(line, self.tick_count(), 2) {
-            Err(fault) => Err(fault.at_line(line.number)),
+            Err(fault) => Err(fault),
             Ok(judged) => {
                 match judged {
                     None => self.stage = Stage::PlaceHead,
@@ -86,12 +86,12 @@ impl TableReader {
     }
 
     // A row of a place, or the end of the places.
-    fn place_row(&mut self, line: TextLine) -> Result<(), SheetFault>
-        ensures { Advances result self.new (at_line line.entry.number (step_at PlaceRows (parts_of self.old) (line_in line.entry))) }
+    fn place_row(&mut self, line: TextLine) -> Result<(), LineFault>
+        ensures { Steps result self.new (step_at PlaceRows (parts_of self.old) (line_in line.entry)) }
     {
         let count = self.places.len();
         match judge_row(line, PLACES, count, RowKind::Place(count as u64), &[]) {
-            Err(fault) => Err(fault.at_line(line.number)),
+            Err(fault) => Err(fault),
             Ok(judged) => {
                 match judged {
                     None => self.stage = Stage::EdgeHead,
@@ -108,8 +108,8 @@ impl TableReader {
     }
 
     // The head of the edges, with the names of the events.
-    fn edge_head(&mut self, heap: Global, line: TextLine) -> Result<(), SheetFault>
-        ensures { Advances result self.new (at_line line.entry.number (step_at EdgeHead (parts_of self.old) (line_in line.entry))) }
+    fn edge_head(&mut self, heap: Global, line: TextLine) -> Result<(), LineFault>
+        ensures { Steps result self.new (step_at EdgeHead (parts_of self.old) (line_in line.entry)) }
     {
         match judge_edge_head(heap, line) {
             Err(fault) => Err(fault),
@@ -122,16 +122,16 @@ impl TableReader {
     }
 
     // A row of an edge.
-    fn edge_row(&mut self, line: TextLine) -> Result<(), SheetFault>
+    fn edge_row(&mut self, line: TextLine) -> Result<(), LineFault>
         requires places { length self.old.places.items ≤ 32 }
         requires names { length self.old.names.items ≤ 8 }
-        ensures { Advances result self.new (at_line line.entry.number (step_at EdgeRows (parts_of self.old) (line_in line.entry))) }
+        ensures { Steps result self.new (step_at EdgeRows (parts_of self.old) (line_in line.entry)) }
     {
         let count = self.edges.len();
         let most = self.places.len().saturating_sub(1) as u64;
         let kind = RowKind::Edge(most, self.names.len() as u8);
         match judge_row(line, EDGES, count, kind, self.names.as_slice()) {
-            Err(fault) => Err(fault.at_line(line.number)),
+            Err(fault) => Err(fault),
             Ok(judged) => {
                 self.stage = Stage::EdgeRows;
                 match judged {
@@ -155,9 +155,9 @@ impl TableReader {
     }
 
     // The next line, wherever it stands.
-    pub(crate) fn line(&mut self, heap: Global, line: TextLine) -> Result<(), SheetFault>
+    pub(crate) fn line(&mut self, heap: Global, line: TextLine) -> Result<(), LineFault>
         requires { Within self.old }
-        ensures { Advances result self.new (at_line line.entry.number (table_step (parts_of self.old) (line_in line.entry))) }
+        ensures { Steps result self.new (table_step (parts_of self.old) (line_in line.entry)) }
     {
         match self.stage {
             Stage::TickHead => self.head(line, 2, b"tick", Stage::TickRows),

@@ -3,7 +3,7 @@ ghost use Rattle.formats.specs.DistanceText.{distance_at, distance_step, distanc
 ghost use Rattle.formats.specs.EntryLines.{event_names};
 ghost use Rattle.formats.specs.Faults.{line_in};
 ghost use Rattle.formats.specs.TableText.{head_is};
-ghost use Rattle.formats.specs.Walk.{at_line, head_step};
+ghost use Rattle.formats.specs.Walk.{head_step};
 ghost use Rattle.formats.specs.declared.distance.DistanceStage.TheVariants.{TickRows, LineRows};
 ghost use Rattle.std.specs.Option.{option_to_list};
 ghost use Rattle.std.specs.Prelude.{◌≡◌, [], length};
@@ -11,7 +11,7 @@ ghost use Rattle.std.specs.Prelude.{◌≡◌, [], length};
 use crate::spans::DistanceReader;
 use clocks::name::Name;
 use formats::distance::{Distance, DistanceStage};
-use formats::fault::SheetFault;
+use formats::fault::LineFault;
 use formats::line::{SheetLimits, TextLine};
 use judges::judging::{judge_head, judge_row, judge_tick};
 use rows::cell::RowKind;
@@ -31,15 +31,15 @@ impl DistanceReader {
         more: usize,
         head: &[u8],
         next: DistanceStage,
-    ) -> Result<(), SheetFault>
-        ensures { Spans result self.new (at_line line.entry.number (head_step more (head_is head.now line.entry.bytes.now) (line_in line.entry) (distance_at (distance_parts_of self.old) next))) }
+    ) -> Result<(), LineFault>
+        ensures { Spans result self.new (head_step more (head_is head.now line.entry.bytes.now) (line_in line.entry) (distance_at (distance_parts_of self.old) next)) }
     {
         match judge_head(line, more, head) {
             Ok(()) => {
                 self.stage = next;
                 Ok(())
             }
-            Err(fault) => Err(fault.at_line(line.number)),
+            Err(fault) => Err(fault),
         }
     }
 
@@ -50,11 +50,11 @@ impl DistanceReader {
     }
 
     // The row of the tick, or the end of its sheet.
-    fn tick_row(&mut self, line: TextLine) -> Result<(), SheetFault>
-        ensures { Spans result self.new (at_line line.entry.number (distance_step_at [] TickRows (distance_parts_of self.old) (line_in line.entry))) }
+    fn tick_row(&mut self, line: TextLine) -> Result<(), LineFault>
+        ensures { Spans result self.new (distance_step_at [] TickRows (distance_parts_of self.old) (line_in line.entry)) }
     {
         match judge_tick(line, self.tick_count(), 1) {
-            Err(fault) => Err(fault.at_line(line.number)),
+            Err(fault) => Err(fault),
             Ok(judged) => {
                 match judged {
                     None => self.stage = DistanceStage::LineHead,
@@ -69,12 +69,12 @@ impl DistanceReader {
     }
 
     // A row of a distance.
-    fn distance_row(&mut self, names: &[Name], line: TextLine) -> Result<(), SheetFault>
-        ensures { Spans result self.new (at_line line.entry.number (distance_step_at (event_names names.now) LineRows (distance_parts_of self.old) (line_in line.entry))) }
+    fn distance_row(&mut self, names: &[Name], line: TextLine) -> Result<(), LineFault>
+        ensures { Spans result self.new (distance_step_at (event_names names.now) LineRows (distance_parts_of self.old) (line_in line.entry)) }
     {
         let count = self.lines.len();
         match judge_row(line, DISTANCES, count, RowKind::Distance, names) {
-            Err(fault) => Err(fault.at_line(line.number)),
+            Err(fault) => Err(fault),
             Ok(judged) => {
                 self.stage = DistanceStage::LineRows;
                 match judged {
@@ -98,8 +98,8 @@ impl DistanceReader {
     }
 
     // The next line, wherever it stands.
-    pub(crate) fn line(&mut self, names: &[Name], line: TextLine) -> Result<(), SheetFault>
-        ensures { Spans result self.new (at_line line.entry.number (distance_step (event_names names.now) (distance_parts_of self.old) (line_in line.entry))) }
+    pub(crate) fn line(&mut self, names: &[Name], line: TextLine) -> Result<(), LineFault>
+        ensures { Spans result self.new (distance_step (event_names names.now) (distance_parts_of self.old) (line_in line.entry)) }
     {
         match self.stage {
             DistanceStage::TickHead => self.head(line, 1, b"tick", DistanceStage::TickRows),

@@ -3,7 +3,6 @@ use Rattle.sheets.specs.DistanceReading.{distance_parts_of}
 use Rattle.formats.specs.DistanceText.{DistanceParts, distance_start, distance_step}
 use Rattle.formats.specs.EntryLines.{event_names}
 use Rattle.judges.proofs.InTurn.{few-lines, counts-on}
-use Rattle.formats.proofs.Steps.{taken_at}
 use Rattle.sheets.proofs.Walking.{Walking, begins, goes_on}
 use Rattle.sheets.proofs.distances.read_lines.Goals as goal
 
@@ -24,6 +23,6 @@ loop-line-preserved c =
     let up = counts-on c.loop-line.cursor c.next_line.new.self c.in-Some.line takes inv.1 in (
       goes_on (distance_step (event_names c.args.names.now)) distance_start c.args.text.now c.loop-line.cursor c.loop-line.cursor.number (distance_parts_of c.loop-line.reader) inv.0
           c.next_line.new.self c.in-Some.line takes (distance_parts_of c.line.new.self)
-          (taken_at c.in-Some.line.number _ _ c.in_ok-line.ensures) c.next_line.new.self.number up.0,
+          (c.in-Ok.ensures) c.next_line.new.self.number up.0,
       omega (arith, up.0, up.1, inv.1),
     )

@@ -1,4 +1,5 @@
 use Rattle.std.proofs.Common.{◌≡◌, length, Some, None, Ok, sym, ap, ◌∙◌, arith}
+use Rattle.std.specs.Option.{option_map}
 use Rattle.formats.specs.EntriesText.{entry_start, with_claim}
 use Rattle.formats.specs.EntryLines.{event_names, entry_next, entry_gives}
 use Rattle.formats.specs.Faults.{line_in, line_number, refusal}
@@ -20,8 +21,8 @@ returns-in-Err c =
     let inv = c.loop-line.invariant in
     refused (event_names c.args.names.now) c.args.room c.args.text.now c.loop-line.stage c.loop-line.count c.loop-line.cursor c.loop-line.cursor.number inv.0 inv.1
     c.next_line.new.self c.in-Some.line c.in-Some.ensures
-    (line_number c.in-Err.fault) (sym c.in-Err.ensures) (refusal c.at_line.result)
-    (c.at_line.ensures ∙ ap (λ k. Some (record { number = line_number c.in-Err.fault; line = k })) c.in-Some.ensures.numbered)
+    (line_number c.in-Err.fault) c.in-Err.ensures (refusal c.at_line.result)
+    (c.at_line.ensures ∙ ap (λ k. option_map (λ n. record { number = n; line = k }) (line_number c.in-Err.fault)) c.in-Some.ensures.numbered)
 
 pub loop-line-preserved-in-Ok-Some : goal.loop-line-preserved-in-Ok-Some
 loop-line-preserved-in-Ok-Some c =

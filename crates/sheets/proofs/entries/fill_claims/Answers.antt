@@ -14,7 +14,7 @@ returns-in-Err c =
     let inv = c.loop-line.invariant in
     λ s taken. absurd
     (not-refused (event_names c.args.names.now) (length c.args.claims.now) c.args.text.now c.loop-line.stage c.loop-line.count c.loop-line.cursor inv.1 inv.0 inv.2
-    c.next_line.new.self c.in-Some.line c.in-Some.ensures (line_number c.in-Err.field-0) (sym c.in-Err.ensures) s taken)
+    c.next_line.new.self c.in-Some.line c.in-Some.ensures (line_number c.in-Err.field-0) c.in-Err.ensures s taken)
 
 pub loop-line-preserved-in-Ok-Some : goal.loop-line-preserved-in-Ok-Some
 loop-line-preserved-in-Ok-Some c =

@@ -5,7 +5,6 @@ use Rattle.formats.specs.Faults.{line_in}
 use Rattle.sheets.specs.Reader.{parts_of}
 use Rattle.formats.specs.TableText.{Parts, start, table_step}
 use Rattle.judges.proofs.InTurn.{few-lines, counts-on}
-use Rattle.formats.proofs.Steps.{taken_at}
 use Rattle.formats.proofs.TableRead.{GoodAt, good-kept, good-limits}
 use Rattle.sheets.proofs.Walking.{Walking, begins, goes_on}
 use Rattle.sheets.proofs.table.read_lines.Goals as goal
@@ -30,7 +29,7 @@ loop-line-preserved c =
     let inv = c.loop-line.invariant in
     let takes = c.in-Some.ensures in
     let up = counts-on c.loop-line.cursor c.next_line.new.self c.in-Some.line takes inv.2 in
-    let went = taken_at c.in-Some.line.number _ _ c.in_ok-line.ensures in (
+    let went = c.in-Ok.ensures in (
       goes_on table_step start t c.loop-line.cursor c.loop-line.cursor.number (parts_of c.loop-line.reader) inv.0
           c.next_line.new.self c.in-Some.line takes (parts_of c.line.new.self) went c.next_line.new.self.number up.0,
       good-kept (parts_of c.loop-line.reader) (parts_of c.line.new.self) (line_in c.in-Some.line) inv.1 went,

@@ -2,10 +2,9 @@ use Rattle.std.proofs.Common.{◌≡◌, ◌-◌, ◌≤◌, map, length, take, 
 use Rattle.std.proofs.lemmas.List.{length-map, take_all}
 use Rattle.clocks.specs.Texts.{text}
 use Rattle.formats.specs.Faults.{line_in, line_number}
-use Rattle.formats.specs.Walk.{at_line}
 use Rattle.sheets.specs.Reader.{parts_of}
 use Rattle.formats.specs.declared.stage.Stage.TheVariants.{EdgeRows}
-use Rattle.formats.proofs.Steps.{fails-at}
+use Rattle.formats.proofs.Steps.{fails-so}
 use Rattle.formats.proofs.ReaderSteps.{judged-as, edge-fails, edges-do-not-end, edge-read}
 use Rattle.sheets.proofs.reader.TableReader.edge_row.Goals as goal
 use Rattle.sheets.proofs.reader.TableReader.edge_row.Goals.{After-judge_row}
@@ -28,29 +27,27 @@ events c = c.len-2.ensures ∙ c.args.self.now.names.ok.0 ∙ sym (length-map (v
 pub returns-in-Err : goal.returns-in-Err
 returns-in-Err c =
     let w = (goal.at.returns-in-Err c).After-judge_row in
-    fails-at c.args.line.number (line_number c.in-Err.fault) _ _
+    fails-so _ _ (line_number c.in-Err.fault) c.in-Err.ensures.row
     (edge-fails (parts_of c.args.self.now) (line_in c.args.line) c.len-count.result c.saturating_sub-most.result c.len-2.result (few w) c.requires.places
-    (take 8 (map text c.as_slice.result.now)) (counted w) (most w) (events w) (named w) (line_number c.in-Err.fault) (sym c.in-Err.ensures))
-    c.at_line.ensures
+    (take 8 (map text c.as_slice.result.now)) (counted w) (most w) (events w) (named w))
 
 pub returns-in-None : goal.returns-in-None
 returns-in-None c =
     let w = (goal.at.returns-in-None c).After-judge_row in
     absurd (edges-do-not-end (parts_of c.args.self.now) (line_in c.args.line) c.len-count.result c.saturating_sub-most.result c.len-2.result (few w) c.requires.places
     (take 8 (map text c.as_slice.result.now)) (counted w) (most w) (events w) (named w)
-    (judged-as _ c.in-Ok.judged None c.in-Ok.ensures c.in-None.is))
+    (judged-as _ c.in-Ok.judged None c.in-Ok.ensures.row c.in-None.is))
 
 pub returns-in_ok-push-in-Some : goal.returns-in_ok-push-in-Some
 returns-in_ok-push-in-Some c =
     let w = (goal.at.returns-in_ok-push-in-Some c).After-judge_row in
     let s = parts_of c.args.self.now in
-    ap (at_line c.args.line.number)
-    ((edge-read s (line_in c.args.line) c.len-count.result c.saturating_sub-most.result c.len-2.result (few w) c.requires.places
+    (edge-read s (line_in c.args.line) c.len-count.result c.saturating_sub-most.result c.len-2.result (few w) c.requires.places
     (take 8 (map text c.as_slice.result.now)) (counted w) (most w) (events w) (named w)
     c.in-Some.row _ c.number_in-source.result c.number_in-target.result c.event_in-event.result c.bounds_in-bounds.result
-    (judged-as _ c.in-Ok.judged (Some c.in-Some.row) c.in-Ok.ensures c.in-Some.is)
+    (judged-as _ c.in-Ok.judged (Some c.in-Some.row) c.in-Ok.ensures.row c.in-Some.is)
     c.number_in-source.ensures c.number_in-target.ensures c.event_in-event.ensures c.bounds_in-bounds.ensures).0
-    ∙ ap (λ es. Ok (record { stage = EdgeRows; ticks = s.ticks; places = s.places; names = s.names; edges = es })) (sym c.in_ok-push-in-Some.ensures.items))
+    ∙ ap (λ es. Ok (record { stage = EdgeRows; ticks = s.ticks; places = s.places; names = s.names; edges = es })) (sym c.in_ok-push-in-Some.ensures.items)
 
 pub overflow_cast-source : goal.overflow_cast-source
 overflow_cast-source c =
@@ -59,7 +56,7 @@ overflow_cast-source c =
     edge-read (parts_of c.args.self.now) (line_in c.args.line) c.len-count.result c.saturating_sub-most.result c.len-2.result (few w) c.requires.places
     (take 8 (map text c.as_slice.result.now)) (counted w) (most w) (events w) (named w)
     c.in-Some.row _ c.number_in-source.result _ _ _
-    (judged-as _ c.in-Ok.judged (Some c.in-Some.row) c.in-Ok.ensures c.in-Some.is) c.number_in-source.ensures refl refl refl in
+    (judged-as _ c.in-Ok.judged (Some c.in-Some.row) c.in-Ok.ensures.row c.in-Some.is) c.number_in-source.ensures refl refl refl in
     omega (arith, read.1)
 
 pub overflow_cast-target : goal.overflow_cast-target
@@ -69,5 +66,5 @@ overflow_cast-target c =
     edge-read (parts_of c.args.self.now) (line_in c.args.line) c.len-count.result c.saturating_sub-most.result c.len-2.result (few w) c.requires.places
     (take 8 (map text c.as_slice.result.now)) (counted w) (most w) (events w) (named w)
     c.in-Some.row _ _ c.number_in-target.result _ _
-    (judged-as _ c.in-Ok.judged (Some c.in-Some.row) c.in-Ok.ensures c.in-Some.is) refl c.number_in-target.ensures refl refl in
+    (judged-as _ c.in-Ok.judged (Some c.in-Some.row) c.in-Ok.ensures.row c.in-Some.is) refl c.number_in-target.ensures refl refl in
     omega (arith, read.2)

@@ -1,9 +1,8 @@
 use Rattle.std.proofs.Common.{◌≡◌, length, Some, None, Ok, vec_items, sym, ap, ◌∙◌}
 use Rattle.formats.specs.Faults.{line_in, line_number}
-use Rattle.formats.specs.Walk.{at_line}
 use Rattle.sheets.specs.Reader.{parts_of}
 use Rattle.formats.specs.declared.stage.Stage.TheVariants.{PlaceRows}
-use Rattle.formats.proofs.Steps.{fails-at}
+use Rattle.formats.proofs.Steps.{fails-so}
 use Rattle.formats.proofs.ReaderSteps.{judged-as, place-fails, place-ends, place_read}
 use Rattle.sheets.proofs.reader.TableReader.place_row.Goals as goal
 use Rattle.sheets.proofs.reader.TableReader.place_row.Goals.{After-judge_row}
@@ -13,19 +12,18 @@ counted c = c.len-count.ensures ∙ c.args.self.now.places.ok.0
 
 pub returns-in-Err : goal.returns-in-Err
 returns-in-Err c =
-    fails-at c.args.line.number (line_number c.in-Err.fault) _ _
-    (place-fails (parts_of c.args.self.now) (line_in c.args.line) c.len-count.result (counted (goal.at.returns-in-Err c).After-judge_row) (line_number c.in-Err.fault) (sym c.in-Err.ensures))
-    c.at_line.ensures
+    fails-so _ _ (line_number c.in-Err.fault) c.in-Err.ensures.row
+    (place-fails (parts_of c.args.self.now) (line_in c.args.line) c.len-count.result (counted (goal.at.returns-in-Err c).After-judge_row))
 
 pub returns-in-None : goal.returns-in-None
-returns-in-None c = ap (at_line c.args.line.number)
-    (place-ends (parts_of c.args.self.now) (line_in c.args.line) c.len-count.result (counted (goal.at.returns-in-None c).After-judge_row)
-    (judged-as _ c.in-Ok.judged None c.in-Ok.ensures c.in-None.is))
+returns-in-None c =
+    place-ends (parts_of c.args.self.now) (line_in c.args.line) c.len-count.result (counted (goal.at.returns-in-None c).After-judge_row)
+    (judged-as _ c.in-Ok.judged None c.in-Ok.ensures.row c.in-None.is)
 
 pub returns-in_ok-push-in-Some : goal.returns-in_ok-push-in-Some
 returns-in_ok-push-in-Some c =
     let s = parts_of c.args.self.now in
-    ap (at_line c.args.line.number) (place_read s (line_in c.args.line) c.len-count.result (counted (goal.at.returns-in_ok-push-in-Some c).After-judge_row)
+    place_read s (line_in c.args.line) c.len-count.result (counted (goal.at.returns-in_ok-push-in-Some c).After-judge_row)
     c.in-Some.row _ c.flag_in-start.result c.flag_in-accepting.result
-    (judged-as _ c.in-Ok.judged (Some c.in-Some.row) c.in-Ok.ensures c.in-Some.is) c.flag_in-start.ensures c.flag_in-accepting.ensures
-    ∙ ap (λ ps. Ok (record { stage = PlaceRows; ticks = s.ticks; places = ps; names = s.names; edges = s.edges })) (sym c.in_ok-push-in-Some.ensures.items))
+    (judged-as _ c.in-Ok.judged (Some c.in-Some.row) c.in-Ok.ensures.row c.in-Some.is) c.flag_in-start.ensures c.flag_in-accepting.ensures
+    ∙ ap (λ ps. Ok (record { stage = PlaceRows; ticks = s.ticks; places = ps; names = s.names; edges = s.edges })) (sym c.in_ok-push-in-Some.ensures.items)

@@ -3,8 +3,7 @@ use Rattle.formats.specs.declared.distance.DistanceStage.TheVariants.{LineRows}
 use Rattle.sheets.specs.DistanceReading.{distance_parts_of}
 use Rattle.formats.specs.EntryLines.{event_names}
 use Rattle.formats.specs.Faults.{line_in, line_number}
-use Rattle.formats.specs.Walk.{at_line}
-use Rattle.formats.proofs.Steps.{fails-at}
+use Rattle.formats.proofs.Steps.{fails-so}
 use Rattle.formats.proofs.ReaderSteps.{judged-as, distance-fails, distances-do-not-end, distance_read}
 use Rattle.sheets.proofs.spans.DistanceReader.distance_row.Goals as goal
 use Rattle.sheets.proofs.spans.DistanceReader.distance_row.Goals.{After-judge_row}
@@ -14,32 +13,29 @@ counted c = c.len-count.ensures ∙ c.args.self.now.lines.ok.0
 
 pub returns-in-Err : goal.returns-in-Err
 returns-in-Err c =
-    fails-at c.args.line.number (line_number c.in-Err.fault) _ _
-    (distance-fails (event_names c.args.names.now) (distance_parts_of c.args.self.now) (line_in c.args.line) c.len-count.result (counted (goal.at.returns-in-Err c).After-judge_row)
-    (line_number c.in-Err.fault) (sym c.in-Err.ensures))
-    c.at_line.ensures
+    fails-so _ _ (line_number c.in-Err.fault) c.in-Err.ensures.row
+    (distance-fails (event_names c.args.names.now) (distance_parts_of c.args.self.now) (line_in c.args.line) c.len-count.result (counted (goal.at.returns-in-Err c).After-judge_row))
 
 pub returns-in-None : goal.returns-in-None
 returns-in-None c = absurd
     (distances-do-not-end (event_names c.args.names.now) (distance_parts_of c.args.self.now) (line_in c.args.line) c.len-count.result (counted (goal.at.returns-in-None c).After-judge_row)
-    (judged-as _ c.in-Ok.judged None c.in-Ok.ensures c.in-None.is))
+    (judged-as _ c.in-Ok.judged None c.in-Ok.ensures.row c.in-None.is))
 
 pub returns-in_ok-push-in-Some : goal.returns-in_ok-push-in-Some
 returns-in_ok-push-in-Some c =
     let s = distance_parts_of c.args.self.now in
-    ap (at_line c.args.line.number)
-    ((distance_read (event_names c.args.names.now) s (line_in c.args.line) c.len-count.result (counted (goal.at.returns-in_ok-push-in-Some c).After-judge_row)
+    (distance_read (event_names c.args.names.now) s (line_in c.args.line) c.len-count.result (counted (goal.at.returns-in_ok-push-in-Some c).After-judge_row)
     c.in-Some.row _ c.event_in-on.result c.event_in-since.result c.number_in-least.result c.number_in-most.result
-    (judged-as _ c.in-Ok.judged (Some c.in-Some.row) c.in-Ok.ensures c.in-Some.is)
+    (judged-as _ c.in-Ok.judged (Some c.in-Some.row) c.in-Ok.ensures.row c.in-Some.is)
     c.event_in-on.ensures c.event_in-since.ensures c.number_in-least.ensures c.number_in-most.ensures).0
-    ∙ ap (λ ls. Ok (record { stage = LineRows; ticks = s.ticks; lines = ls })) (sym c.in_ok-push-in-Some.ensures.items))
+    ∙ ap (λ ls. Ok (record { stage = LineRows; ticks = s.ticks; lines = ls })) (sym c.in_ok-push-in-Some.ensures.items)
 
 pub overflow_cast-least : goal.overflow_cast-least
 overflow_cast-least c =
     let read =
     distance_read (event_names c.args.names.now) (distance_parts_of c.args.self.now) (line_in c.args.line) c.len-count.result (counted (goal.at.overflow_cast-least c).After-judge_row)
     c.in-Some.row _ c.event_in-on.result c.event_in-since.result c.number_in-least.result _
-    (judged-as _ c.in-Ok.judged (Some c.in-Some.row) c.in-Ok.ensures c.in-Some.is) c.event_in-on.ensures c.event_in-since.ensures c.number_in-least.ensures refl in
+    (judged-as _ c.in-Ok.judged (Some c.in-Some.row) c.in-Ok.ensures.row c.in-Some.is) c.event_in-on.ensures c.event_in-since.ensures c.number_in-least.ensures refl in
     omega (arith, read.1)
 
 pub overflow_cast-most : goal.overflow_cast-most
@@ -47,5 +43,5 @@ overflow_cast-most c =
     let read =
     distance_read (event_names c.args.names.now) (distance_parts_of c.args.self.now) (line_in c.args.line) c.len-count.result (counted (goal.at.overflow_cast-most c).After-judge_row)
     c.in-Some.row _ c.event_in-on.result c.event_in-since.result _ c.number_in-most.result
-    (judged-as _ c.in-Ok.judged (Some c.in-Some.row) c.in-Ok.ensures c.in-Some.is) c.event_in-on.ensures c.event_in-since.ensures refl c.number_in-most.ensures in
+    (judged-as _ c.in-Ok.judged (Some c.in-Some.row) c.in-Ok.ensures.row c.in-Some.is) c.event_in-on.ensures c.event_in-since.ensures refl c.number_in-most.ensures in
     omega (arith, read.2)
