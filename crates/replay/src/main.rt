@@ -1,11 +1,12 @@
 #![tactic(auto)]
 
-// Replays words over the part in the file `part.txt`: the reading at each pair, and whether the word is a behaviour of the part.
+// Replays words over a part: the reading at each pair, and whether the word is a behaviour of the part.
+// The part is that of the file `part.txt`, or the bundled one where there is no such file.
 use anyhow::anyhow;
 use clocks::name::Name;
 use clocks::reading::Reading;
 use formats::fault::SheetFault;
-use meaning::values::Pair;
+use meaning::values::{Bound, Edge, Pair, Place};
 use sheets::table::read_table;
 use std::alloc::{AllocError, Global};
 use std::io::ErrorKind;
@@ -19,6 +20,43 @@ const PART: &str = "part.txt";
 const OPEN: u8 = 0;
 
 const STEAM: u8 = 1;
+
+// The bundled part: a steam driver that opens once, and may then let steam once, 2 or 3 ticks after the opening.
+fn driver(heap: Global) -> Result<Option<Table>, AllocError> {
+    let mut names = Vec::new(heap);
+    for text in [&b"open"[..], &b"steam"[..]] {
+        if let Some(name) = Name::new(text) {
+            names.push(name)?;
+        }
+    }
+    let mut places = Vec::new(heap);
+    places.push(Place {
+        start: true,
+        accepting: false,
+    })?;
+    places.push(Place {
+        start: false,
+        accepting: true,
+    })?;
+    let mut edges = Vec::new(heap);
+    let mut bounds = [Bound::Any; 8];
+    bounds[0] = Bound::Never;
+    bounds[1] = Bound::Never;
+    edges.push(Edge {
+        source: 0,
+        target: 1,
+        event: OPEN,
+        bounds,
+    })?;
+    bounds[0] = Bound::Between(2, 3);
+    edges.push(Edge {
+        source: 1,
+        target: 1,
+        event: STEAM,
+        bounds,
+    })?;
+    Ok(Table::new(100, names, places, edges))
+}
 
 const fn pair(event: u8, wait: u32) -> Pair {
     Pair { event, wait }
@@ -87,11 +125,12 @@ fn replay_words(rt: &HostRuntime, part: &Table) -> anyhow::Result<()> {
     replay(rt, part, &[])
 }
 
-// A missing file is an empty text.
-fn part_text(rt: &HostRuntime) -> io::Result<Vec<u8>> {
+// The text of the part's file; none where there is no file.
+fn part_text(rt: &HostRuntime) -> io::Result<Option<Vec<u8>>> {
     match fs::read(rt, PART) {
-        Err(error) if error.kind() == ErrorKind::NotFound => Ok(Vec::new(rt.alloc())),
-        read => read,
+        Ok(text) => Ok(Some(text)),
+        Err(error) if error.kind() == ErrorKind::NotFound => Ok(None),
+        Err(error) => Err(error),
     }
 }
 
@@ -112,9 +151,18 @@ fn tell_fault(rt: &HostRuntime, text: &[u8], fault: SheetFault) -> anyhow::Resul
     Ok(())
 }
 
+fn replay_bundled(rt: &HostRuntime) -> anyhow::Result<()> {
+    match driver(rt.alloc())? {
+        Some(part) => replay_words(rt, &part),
+        None => Err(anyhow!("the bundled part breaks a limit")),
+    }
+}
+
 fn run(rt: &HostRuntime) -> anyhow::Result<()> {
     let heap = rt.alloc();
-    let text = part_text(rt)?;
+    let Some(text) = part_text(rt)? else {
+        return replay_bundled(rt);
+    };
     let mut part = Table::blank(heap);
     match read_table(heap, text.as_slice(), &mut part) {
         Ok(()) => replay_words(rt, &part),
