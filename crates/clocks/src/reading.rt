@@ -98,7 +98,8 @@ fn holds(bound: Bound, cell: Option<u16>) -> bool
 }
 
 fn same_cells(one: &[Option<u16>; 8], other: &[Option<u16>; 8]) -> bool
-    ensures { Decides result (one.now ≡ other.now) }
+    ensures value { result ≡ pointwise (option_eq nat_eq) one.now other.now }
+    ensures same { Decides result (one.now ≡ other.now) }
 {
     *one == *other
 }
