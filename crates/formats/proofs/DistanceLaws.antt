@@ -10,11 +10,10 @@ use Rattle.rows.specs.declared.cell.RowKind.TheVariants.{Tick, Distance as Dista
 use Rattle.formats.specs.declared.distance.Distance.{Distance}
 use Rattle.formats.specs.declared.distance.DistanceStage.{DistanceStage}
 use Rattle.formats.specs.declared.distance.DistanceStage.TheVariants.{TickHead, TickRows, LineHead, LineRows}
-use Rattle.formats.specs.declared.fault.Refusal.{Refusal}
 use Rattle.formats.specs.Faults.{Fails}
 use Rattle.formats.specs.Least.{Refused}
 use Rattle.formats.specs.TableText.{head_is, tick_head}
-use Rattle.formats.specs.Walk.{Line}
+use Rattle.formats.specs.Walk.{Refusal, Line}
 use Rattle.formats.specs.DistanceText.{Distances, DistanceParts, distance_at, distance_due, distance_format, distance_from, distance_step_at, distance_tick_limits, distances_held, distances_read, lawful_between, lawful_distance, line_head, line_limits, read_distances, with_distance, with_distance_tick, IsDistances, OnlyDistances, DistancesOrFault}
 use Rattle.formats.proofs.Least.{Judges, head-judges, row-judges}
 use Rattle.formats.proofs.Laws.{head-known, taken-is-only, not-read, one_of_two}

@@ -9,12 +9,11 @@ use Rattle.rows.specs.declared.cell.RowKind.TheVariants.{Claim as Claim'}
 use Rattle.formats.specs.declared.claim.Claim.{Claim}
 use Rattle.formats.specs.declared.claim.EntryStage.{EntryStage}
 use Rattle.formats.specs.declared.claim.EntryStage.TheVariants.{Head, Rows}
-use Rattle.formats.specs.declared.fault.Refusal.{Refusal}
 use Rattle.formats.specs.declared.fault.SheetFault.{SheetFault}
 use Rattle.formats.specs.Faults.{refusal}
 use Rattle.formats.specs.Least.{Refused}
 use Rattle.formats.specs.TableText.{head_is}
-use Rattle.formats.specs.Walk.{Line}
+use Rattle.formats.specs.Walk.{Refusal, Line}
 use Rattle.formats.specs.EntriesText.{EntryParts, entry_head, entry_limits, entry_due, entry_step_at, entries_read, entries_format, with_claim, claim_from, read_entries, IsEntries, OnlyEntries, EntriesTaken, EntriesOrFault}
 use Rattle.formats.specs.EntryLines.{Fills}
 use Rattle.formats.proofs.Least.{Judges, head-judges, row-judges, taken-is-faultless}

@@ -3,11 +3,10 @@
 use Rattle.std.proofs.Common.{◌≡◌, ℕ, Bool, true, false, cond, ◌⊎◌, List, Some, None, Ok, Err, Option, Result, sym, refl, ap, ◌∙◌, inl, inr}
 use Rattle.std.specs.Str.{bytes_eq}
 use Rattle.rows.proofs.Outcomes.{never-ok, same-from-ok}
-use Rattle.formats.specs.declared.fault.Refusal.{Refusal}
 use Rattle.formats.specs.Faults.{Fails}
 use Rattle.formats.specs.Least.{Format, Least, OneOf, Refused}
 use Rattle.formats.specs.TableText.{head_is}
-use Rattle.formats.specs.Walk.{Line, reading}
+use Rattle.formats.specs.Walk.{Refusal, Line, reading}
 use Rattle.formats.proofs.Least.{Judges, refused-is-least, taken-is-faultless}
 
 -- the numbers that a head is wrong by

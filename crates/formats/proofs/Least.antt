@@ -10,9 +10,8 @@ use Rattle.rows.specs.declared.cell.RowKind.{RowKind}
 use Rattle.rows.specs.declared.cell.WordFault.{WordFault}
 use Rattle.rows.specs.declared.cell.WordFault.TheVariants.{Misfit, OutOfRange}
 use Rattle.rows.proofs.Outcomes.{never-ok, same-from-ok}
-use Rattle.formats.specs.declared.fault.Refusal.{Refusal}
 use Rattle.formats.specs.Faults.{word_number}
-use Rattle.formats.specs.Walk.{Line, Limits, empty, misspaced, lacks_sheet, head_step, row_step, row_gives, line_here, at_line, walk, checked, reading}
+use Rattle.formats.specs.Walk.{Refusal, Line, Limits, empty, misspaced, lacks_sheet, head_step, row_step, row_gives, line_here, at_line, walk, checked, reading}
 use Rattle.formats.specs.Least.{cell_wrong, said_in, word_wrong, Due, head_due, row_due, ends_sheet, LineWrong, Format, InLines, Faulty, Least}
 
 never-err : {X : Type 0} {E : Type 0} {Y : Type 0} (x : X) (e : E) → ◌≡◌ {A = Result X E} (Ok x) (Err e) → Y

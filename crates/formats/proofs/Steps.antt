@@ -9,11 +9,10 @@ use Rattle.rows.specs.declared.cell.Cell.{Cell}
 use Rattle.rows.specs.declared.cell.RowKind.{RowKind}
 use Rattle.rows.specs.declared.cell.WordFault.{WordFault}
 use Rattle.rows.specs.declared.cell.WordFault.TheVariants.{Misfit, OutOfRange}
-use Rattle.formats.specs.declared.fault.Refusal.{Refusal}
 use Rattle.formats.specs.Faults.{Agrees, Fails, line_number, row_fault}
 use Rattle.formats.specs.EntryLines.{Says}
 use Rattle.formats.specs.declared.fault.LineFault.{LineFault}
-use Rattle.formats.specs.Walk.{Line, Limits, empty, misspaced, lacks_sheet, head_step, row_step, row_gives, line_here, at_line, walk}
+use Rattle.formats.specs.Walk.{Refusal, Line, Limits, empty, misspaced, lacks_sheet, head_step, row_step, row_gives, line_here, at_line, walk}
 
 -- a test that would refuse failed
 passed : {S : Type 0} (b : Bool) (n : ℕ) (r : Result S ℕ) (s : S) → cond b (Err n) r ≡ Ok s → (b ≡ false) × (r ≡ Ok s)

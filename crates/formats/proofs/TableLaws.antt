@@ -9,12 +9,11 @@ use Rattle.tables.specs.Lawful.{different, lawful}
 use Rattle.rows.specs.Rows.{number_in}
 use Rattle.rows.specs.declared.cell.Cell.TheVariants.{Absent}
 use Rattle.rows.specs.declared.cell.RowKind.TheVariants.{Tick, Place as Place', Edge as Edge'}
-use Rattle.formats.specs.declared.fault.Refusal.{Refusal}
 use Rattle.formats.specs.declared.stage.Stage.{Stage}
 use Rattle.formats.specs.declared.stage.Stage.TheVariants.{TickHead, TickRows, PlaceHead, PlaceRows, EdgeHead, EdgeRows}
 use Rattle.formats.specs.Faults.{Fails}
 use Rattle.formats.specs.Least.{Refused}
-use Rattle.formats.specs.Walk.{Line}
+use Rattle.formats.specs.Walk.{Refusal, Line}
 use Rattle.formats.specs.TableText.{Parts, at, held, head_is, edge_head_wrong, tick_head, place_head, tick_limits, place_limits, edge_limits, place_from, edge_from, with_tick, with_place, with_names, with_edge, step_at, due_at, table_format, read_table, IsTable, OnlyTable, TableOrFault}
 use Rattle.formats.proofs.Least.{Judges, head-judges, row-judges}
 use Rattle.formats.proofs.Laws.{Known, head-known, taken-is-only, not-read, one_of_two}

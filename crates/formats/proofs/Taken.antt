@@ -13,8 +13,7 @@ use Rattle.rows.specs.declared.cell.Cell.TheVariants.{Number, Absent}
 use Rattle.rows.specs.declared.cell.RowKind.TheVariants.{Tick}
 use Rattle.rows.proofs.Outcomes.{never-ok, same-from-ok}
 use Rattle.rows.proofs.Rows.{row-is-written}
-use Rattle.formats.specs.declared.fault.Refusal.{Refusal}
-use Rattle.formats.specs.Walk.{Line, Limits, empty, misspaced, lacks_sheet, row_step, line_here, at_line, walk, checked, reading}
+use Rattle.formats.specs.Walk.{Refusal, Line, Limits, empty, misspaced, lacks_sheet, row_step, line_here, at_line, walk, checked, reading}
 use Rattle.formats.specs.TableText.{head_is, tick_head}
 use Rattle.formats.proofs.Steps.{SheetEnded, row-taken, walk-keeps}
 use Rattle.formats.proofs.Columns.{tick-row}

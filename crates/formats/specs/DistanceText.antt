@@ -9,8 +9,7 @@ use Rattle.rows.specs.declared.cell.RowKind.TheVariants.{Tick, Distance as Dista
 use Rattle.formats.specs.declared.distance.Distance.{Distance}
 use Rattle.formats.specs.declared.distance.DistanceStage.{DistanceStage}
 use Rattle.formats.specs.declared.distance.DistanceStage.TheVariants.{TickHead, TickRows, LineHead, LineRows}
-use Rattle.formats.specs.declared.fault.Refusal.{Refusal}
-use Rattle.formats.specs.Walk.{Line, Limits, head_step, row_step, reading}
+use Rattle.formats.specs.Walk.{Refusal, Line, Limits, head_step, row_step, reading}
 use Rattle.formats.specs.Least.{Due, Format, Least, OneOf, head_due, row_due}
 use Rattle.formats.specs.TableText.{tick_head, head_is}
 

@@ -9,9 +9,8 @@ use Rattle.rows.specs.declared.cell.RowKind.TheVariants.{Claim as Claim'}
 use Rattle.formats.specs.declared.claim.Claim.{Claim}
 use Rattle.formats.specs.declared.claim.EntryStage.{EntryStage}
 use Rattle.formats.specs.declared.claim.EntryStage.TheVariants.{Head, Rows}
-use Rattle.formats.specs.declared.fault.Refusal.{Refusal}
 use Rattle.formats.specs.declared.fault.SheetFault.{SheetFault}
-use Rattle.formats.specs.Walk.{Line, Limits, head_step, row_step, reading}
+use Rattle.formats.specs.Walk.{Refusal, Line, Limits, head_step, row_step, reading}
 use Rattle.formats.specs.Faults.{refusal}
 use Rattle.formats.specs.Least.{Due, Format, Least, OneOf, Refused, head_due, row_due}
 use Rattle.formats.specs.TableText.{head_is}

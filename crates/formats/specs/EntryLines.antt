@@ -8,7 +8,6 @@ use Rattle.rows.specs.declared.cell.RowKind.TheVariants.{Claim as Claim'}
 use Rattle.formats.specs.declared.claim.Claim.{Claim}
 use Rattle.formats.specs.declared.claim.EntryStage.{EntryStage}
 use Rattle.formats.specs.declared.claim.EntryStage.TheVariants.{Head, Rows}
-use Rattle.formats.specs.declared.fault.Refusal.{Refusal}
 use Rattle.formats.specs.declared.fault.LineFault.{LineFault}
 use Rattle.formats.specs.declared.fault.SheetFault.{SheetFault}
 use Rattle.formats.specs.Faults.{line_number, refusal}
@@ -16,7 +15,7 @@ use Rattle.formats.specs.TableText.{head_is}
 use Rattle.formats.specs.EntriesText.{EntryParts, entry_head, claim_from, entries_read, with_claim}
 use Rattle.clocks.specs.Texts.{text}
 use Rattle.clocks.specs.declared.name.Name.{Name}
-use Rattle.formats.specs.Walk.{Line, misspaced, head_step, row_gives}
+use Rattle.formats.specs.Walk.{Refusal, Line, misspaced, head_step, row_gives}
 
 -- An answer about a line says what is defined; want of memory says nothing, so it is no answer.
 abbrev pub Says : {X : Type 0} → Result X LineFault → Result X ℕ → Type 0

@@ -3,14 +3,14 @@ use Rattle.std.specs.Prelude.{◌≡◌, ℕ, Some, None, Ok, Err, Option, Resul
 use Rattle.texts.specs.Faults.{text_number, text_line}
 use Rattle.rows.specs.declared.cell.WordFault.{WordFault}
 use Rattle.rows.specs.declared.cell.WordFault.TheVariants.{Misfit, OutOfRange}
-use Rattle.formats.specs.declared.fault.Refusal.{Refusal}
+use Rattle.formats.specs.declared.fault.Refusal.{Refusal as Told}
 use Rattle.formats.specs.declared.fault.SheetFault.{SheetFault}
 use Rattle.formats.specs.declared.fault.SheetFault.TheVariants as sheet
 use Rattle.formats.specs.declared.fault.LineFault.{LineFault}
 use Rattle.formats.specs.declared.fault.LineFault.TheVariants as line
 use Rattle.formats.specs.declared.line.TextLine.{TextLine}
 use Rattle.formats.specs.declared.line.SheetLimits.{SheetLimits}
-use Rattle.formats.specs.Walk.{Line, Limits}
+use Rattle.formats.specs.Walk.{Refusal, Line, Limits}
 
 -- a line and limits as the definitions have them
 abbrev pub line_in : TextLine → Line
@@ -37,6 +37,10 @@ row_fault OutOfRange = line.Range
 abbrev pub word_number : WordFault → ℕ
 word_number Misfit = 5
 word_number OutOfRange = 6
+
+-- a refusal as the definitions have it
+abbrev pub refusal_in : Told → Refusal
+refusal_in q = record { number = q.number; line = q.line }
 
 -- The refusal of a text that a fault tells.
 abbrev pub refusal : SheetFault → Option Refusal

@@ -6,9 +6,8 @@ use Rattle.rows.specs.declared.cell.Cell.{Cell}
 use Rattle.rows.specs.declared.cell.Column.{Column}
 use Rattle.rows.specs.declared.cell.RowKind.{RowKind}
 use Rattle.rows.specs.declared.cell.WordFault.{WordFault}
-use Rattle.formats.specs.declared.fault.Refusal.{Refusal}
 use Rattle.formats.specs.Faults.{word_number}
-use Rattle.formats.specs.Walk.{Line, Limits, empty, misspaced, lacks_sheet, line_here}
+use Rattle.formats.specs.Walk.{Refusal, Line, Limits, empty, misspaced, lacks_sheet, line_here}
 
 -- ---- a word
 

@@ -15,9 +15,8 @@ use Rattle.rows.specs.declared.cell.Cell.TheVariants.{Number, Absent, Flag, Even
 use Rattle.rows.specs.declared.cell.RowKind.TheVariants.{Tick, Place as Place', Edge as Edge'}
 use Rattle.formats.specs.declared.stage.Stage.{Stage}
 use Rattle.formats.specs.declared.stage.Stage.TheVariants.{TickHead, TickRows, PlaceHead, PlaceRows, EdgeHead, EdgeRows}
-use Rattle.formats.specs.declared.fault.Refusal.{Refusal}
 use Rattle.formats.specs.declared.fault.SheetFault.{SheetFault}
-use Rattle.formats.specs.Walk.{Line, Limits, head_step, row_step, reading}
+use Rattle.formats.specs.Walk.{Refusal, Line, Limits, head_step, row_step, reading}
 use Rattle.formats.specs.Faults.{refusal}
 use Rattle.formats.specs.Least.{Due, Format, Least, OneOf, Refused, head_due, row_due}
 

@@ -7,7 +7,11 @@ use Rattle.rows.specs.declared.cell.Cell.{Cell}
 use Rattle.rows.specs.declared.cell.RowKind.{RowKind}
 use Rattle.rows.specs.declared.cell.WordFault.{WordFault}
 use Rattle.rows.specs.declared.cell.WordFault.TheVariants.{Misfit, OutOfRange}
-use Rattle.formats.specs.declared.fault.Refusal.{Refusal}
+
+-- a refusal: its number, and the line that it names
+pub record Refusal : Type 0 where
+  pub number : ℕ
+  pub line : ℕ
 
 -- ---- one line
 

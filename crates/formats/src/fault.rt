@@ -1,4 +1,4 @@
-ghost use Rattle.formats.specs.Faults.{line_number, refusal};
+ghost use Rattle.formats.specs.Faults.{line_number, refusal, refusal_in};
 ghost use Rattle.std.specs.Option.{option_map};
 ghost use Rattle.std.specs.Prelude.{◌≡◌};
 
@@ -56,7 +56,7 @@ impl LineFault {
 impl SheetFault {
     // The refusal that the fault tells; none for want of memory.
     pub fn refusal(&self) -> Option<Refusal>
-        ensures { result ≡ refusal self.now }
+        ensures { option_map refusal_in result ≡ refusal self.now }
     {
         let (number, line) = match self {
             SheetFault::Text(fault) => (fault.number(), fault.line()),

@@ -20,8 +20,7 @@ use Rattle.formats.specs.EntriesText.{EntryParts, entry_start, entry_head, entry
 use Rattle.formats.specs.EntryLines.{entry_gives, entry_next, some_claim}
 use Rattle.formats.specs.Faults.{line_in}
 use Rattle.formats.specs.TableText.{head_is}
-use Rattle.formats.specs.declared.fault.Refusal.{Refusal}
-use Rattle.formats.specs.Walk.{Line, empty, misspaced, lacks_sheet, row_gives, at_line}
+use Rattle.formats.specs.Walk.{Refusal, Line, empty, misspaced, lacks_sheet, row_gives, at_line}
 use Rattle.formats.proofs.Steps.{head-taken}
 use Rattle.sheets.proofs.Walking.{Walking, walked, begins, goes_on, fails}
 

@@ -2,11 +2,10 @@
 use Rattle.std.proofs.Common.{◌≡◌, ℕ, suc, List, [], ◌∷◌, Ok, Option, Result, sym, ap, ◌∙◌}
 use Rattle.texts.specs.Lines.{lines, ended}
 use Rattle.judges.specs.declared.cursor.Lines.{Lines}
-use Rattle.formats.specs.declared.fault.Refusal.{Refusal}
 use Rattle.formats.specs.declared.line.TextLine.{TextLine}
 use Rattle.judges.specs.Cursor.{whole, left, Starts, Takes}
 use Rattle.formats.specs.Faults.{Fails, line_in}
-use Rattle.formats.specs.Walk.{Line, line_here, at_line, walk}
+use Rattle.formats.specs.Walk.{Refusal, Line, line_here, at_line, walk}
 use Rattle.formats.proofs.Steps.{walk-goes, fails-through}
 
 module _ {S : Type 0} (step : S → Line → Result S ℕ) (start : S) (t : List ℕ) where
