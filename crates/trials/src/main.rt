@@ -2,24 +2,12 @@
 
 #![tactic(auto)]
 
-mod distance_texts;
-mod entry_texts;
 mod parts;
-mod showing;
-mod table_lines;
-mod table_texts;
-mod trying;
 mod words;
 
 fn run(rt: &HostRuntime) -> anyhow::Result<()> {
     parts::try_parts(rt)?;
-    words::try_words(rt)?;
-    trying::tell_bytes(rt)?;
-    trying::try_texts(rt, table_lines::TRIALS, &[])?;
-    trying::try_texts(rt, table_texts::TRIALS, table_texts::LONG)?;
-    trying::try_texts(rt, distance_texts::TRIALS, distance_texts::LONG)?;
-    trying::try_texts(rt, entry_texts::TRIALS, entry_texts::LONG)?;
-    showing::show_taken(rt)
+    words::try_words(rt)
 }
 
 fn main(rt: HostRuntime) -> anyhow::Result<()> {
