@@ -269,7 +269,7 @@ module _ (t : Contents) (h : lawful t ≡ true) where
       )
 
   -- The text of a lawful table is taken, and gives that table.
-  pub written-is-taken : read_table (table_text t) ≡ Ok (table_parts t)
+  pub written-is-taken : read_table (table_text t) ≡ Ok (edged t t.edges)
   written-is-taken =
       text-is-taken 32768 table_step start (edged t t.edges) tick_head
       (row_line [] (Number t.tick ∷ []) ∷ [] ∷ place_head ∷ (place_lines 0 t.places ++ ([] ∷ edge_head t.names ∷ edge_lines t.names t.edges)))
