@@ -1,8 +1,7 @@
 -- The first byte that is not allowed, found byte by byte while line ends are counted. Assumes nothing.
-use Rattle.std.proofs.Common.{◌≡◌, ℕ, suc, ◌+◌, ◌<◌, ◌≤◌, Bool, true, false, cond, ◌&&◌, eqb, List, [], ◌∷◌, length, get_or, take, drop, Some, None, count_by, Option, sym, refl, ap, ◌∙◌, ⊎_elim, arith}
-use Rattle.std.proofs.lemmas.List.{at_drop_more, at_drop_all}
+use Rattle.std.proofs.Common.{◌≡◌, ℕ, suc, ◌+◌, ◌<◌, Bool, true, false, cond, ◌&&◌, eqb, List, [], ◌∷◌, length, take, Some, None, count_by, Option, sym, refl, ap, ◌∙◌, ⊎_elim, arith}
 use Rattle.std.proofs.lemmas.List.Sums.{sum_by-cons}
-use Rattle.std.proofs.lemmas.Bool.{and_parts, cases_Bool, eq-eqb, ne_eqb}
+use Rattle.std.proofs.lemmas.Bool.{and_parts, cases_Bool}
 use Rattle.std.specs.Option.{option_map}
 use Rattle.std.specs.List.{prefix_len}
 use Rattle.texts.specs.Numbers.{every}
@@ -12,36 +11,6 @@ use Rattle.texts.proofs.Lists.{leading-yes, leading-no, never-some}
 -- the lines of a part are counted from the lines before it
 abbrev pub after : ℕ → Option ℕ → Option ℕ
 after n o = option_map (λ line. n + line) o
-
-after_none : (o : Option ℕ) → after 0 o ≡ o
-after_none None = refl
-after_none (Some n) = let e : 0 + n ≡ n = omega arith in ap Some e
-
-after_more : (n : ℕ) (o : Option ℕ) → after n (option_map suc o) ≡ after (n + 1) o
-after_more n None = refl
-after_more n (Some line) = let e : n + suc line ≡ n + 1 + line = omega arith in ap Some e
-
-module _ (t : List ℕ) (i n : ℕ) (r : Option ℕ) (so : after n (bad_byte (drop i t)) ≡ r) where
-  here : i < length t → (ok end : Bool) → ok ≡ allowed (get_or t i 0) → end ≡ eqb (get_or t i 0) 10
-      → after n (cond ok (cond end (option_map suc (bad_byte (drop (i + 1) t))) (bad_byte (drop (i + 1) t))) (Some 1)) ≡ r
-  here in' ok end is ends =
-      (λ k. after n (cond (is k) (cond (ends k) (option_map suc (bad_byte (drop (i + 1) t))) (bad_byte (drop (i + 1) t))) (Some 1)))
-      ∙ sym (ap (after n) (at_drop_more bad_byte t i 0 in')) ∙ so
-
-  pub bad-here : i < length t → false ≡ allowed (get_or t i 0) → Some (n + 1) ≡ r
-  bad-here in' bad = here in' false (eqb (get_or t i 0) 10) bad refl
-
-  pub bad-after-end : i < length t → true ≡ allowed (get_or t i 0) → get_or t i 0 ≡ 10 → after (n + 1) (bad_byte (drop (i + 1) t)) ≡ r
-  bad-after-end in' fine is = sym (after_more n (bad_byte (drop (i + 1) t))) ∙ here in' true true fine (sym (eq-eqb _ 10 is))
-
-  pub bad-in-line : i < length t → true ≡ allowed (get_or t i 0) → (get_or t i 0 ≡ 10 → ⊥) → after n (bad_byte (drop (i + 1) t)) ≡ r
-  bad-in-line in' fine other = here in' true false fine (sym (ne_eqb _ 10 other))
-
-  pub bad-nowhere : length t ≤ i → None ≡ r
-  bad-nowhere past = sym (ap (after n) (at_drop_all bad_byte t i past)) ∙ so
-
-pub bad-from-start : (t : List ℕ) → after 0 (bad_byte t) ≡ bad_byte t
-bad-from-start t = after_none (bad_byte t)
 
 -- ---- the same in other words: all bytes are allowed, or the first that is not has so many line ends before it
 

@@ -1,5 +1,5 @@
 -- A line that is sought by its number, from the start of one line to the start of the next. Assumes nothing.
-use Rattle.std.proofs.Common.{◌≡◌, ℕ, suc, ◌+◌, ◌-◌, ◌<◌, ◌≤◌, List, ◌∷◌, length, take, drop, Some, None, Option, sym, ap, ◌∙◌, ⊎_elim, arith}
+use Rattle.std.proofs.Common.{◌≡◌, ℕ, suc, ◌+◌, ◌-◌, ◌<◌, ◌≤◌, List, ◌∷◌, length, take, drop, Some, None, Option, sym, refl, ap, ◌∙◌, ⊎_elim, arith}
 use Rattle.std.proofs.lemmas.List.{drop-drop, drop_all, length-drop}
 use Rattle.std.proofs.lemmas.List.Sums.{prefix_len-drop_all}
 use Rattle.std.proofs.lemmas.Bool.{cases_lt}
@@ -32,12 +32,17 @@ module _ (t : List ℕ) (start end : ℕ) (is : end ≡ line_end t start) where
     pub sought-here : start < length t → slice_get (lines (drop start t)) 0 ≡ r → Some (take (end - start) (drop start t)) ≡ r
     sought-here in' so = sym (ap (λ ls. slice_get ls 0) (lines_from in')) ∙ so
 
-    pub sought-later : end < length t → (k : ℕ) → slice_get (lines (drop start t)) (suc k) ≡ r → slice_get (lines (drop (end + 1) t)) k ≡ r
-    sought-later more k so = sym (ap (λ ls. slice_get ls (suc k)) (lines_from (start-within more))) ∙ so
-
     -- a line that nothing ends is the last
     pub sought-after-last : length t ≤ end → (k : ℕ) → slice_get (lines (drop start t)) (suc k) ≡ r → None ≡ r
     sought-after-last last k so = ⊎_elim
         (λ in'. sym (ap (λ ls. slice_get ls (suc k)) (lines_from in' ∙ ap (λ s. take (end - start) (drop start t) ∷ lines s) (drop_all (end + 1) t (omega arith)))) ∙ so)
         (λ past. sought-past t start (suc k) r past so)
         (cases_lt start (length t))
+
+-- A later line than the one from `start` on is sought from the next start. `grind` finds this by the call on the left.
+pub sought_next : (t : List ℕ) (start k : ℕ) → line_end t start < length t → 0 < k
+    → slice_get (lines (drop start t)) k ≡ slice_get (lines (drop (line_end t start + 1) t)) (k - 1)
+sought_next t start k more later =
+    let one : k ≡ suc (k - 1) = omega arith in
+    let end = line_end t start in
+    ap (slice_get (lines (drop start t))) one ∙ ap (λ ls. slice_get ls (suc (k - 1))) (lines_from t start end refl (start-within t start end refl more))

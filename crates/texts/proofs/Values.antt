@@ -1,7 +1,6 @@
 -- A word that is a number is the decimal writing of its value, and each number below 10 ^ 10 is the value of its writing. Assumes nothing.
-use Rattle.std.proofs.Common.{◌≡◌, ℕ, zero, suc, ◌+◌, ◌-◌, ◌*◌, ◌^◌, ◌<◌, ◌≤◌, true, false, not, ◌&&◌, eqb, leb, ◌⊎◌, List, length, get_or, drop, Some, decimal, sym, refl, ap, ◌∙◌, subst, inl, inr, ⊎_elim, arith, pow-add, rules}
+use Rattle.std.proofs.Common.{◌≡◌, ℕ, zero, suc, ◌^◌, ◌<◌, ◌≤◌, true, false, not, ◌&&◌, eqb, leb, ◌⊎◌, List, length, get_or, drop, Some, decimal, sym, refl, ap, ◌∙◌, subst, inl, inr, ⊎_elim, arith, rules}
 use Rattle.std.proofs.lemmas.Fmt.{decimal-digits_value, digits_decimal, digits_value-decimal, length-decimal-le, decimal_nonempty, decimal_digit, first_decimal}
-use Rattle.std.proofs.lemmas.List.{at_drop_more, at_drop_all}
 use Rattle.std.proofs.lemmas.Str.Parse.{IsNumeralModel, numerals_by_fold, digits_value_short}
 use Rattle.std.proofs.lemmas.Bool.{and_parts, and_from, le-leb, leb-true, not-true, cond-true}
 use Rattle.std.proofs.lemmas.Bool.Decides.{nat_tests}
@@ -69,31 +68,8 @@ number-of-decimal n h =
 
 -- ---- digit by digit
 
-digit-within : (b : ℕ) → digit b ≡ true → (48 ≤ b) × (b ≤ 57)
-digit-within b h = let both = and_parts (leb 48 b) _ h in (leb-true 48 b both.0, leb-true b 57 both.1)
-
 -- the value of the first i digits, with the rest still to be read
 pub record Read (ds : List ℕ) (i v : ℕ) : Type 0 where
   pub left : every digit (drop i ds) ≡ true
   pub so_far : read_on v (drop i ds) ≡ read_on 0 ds
   pub below : v < 10 ^ i
-
-pub read_none : (ds : List ℕ) → numeral ds ≡ true → Read ds 0 0
-read_none ds h = record { left = (numeral-says ds h).digits; so_far = refl; below = omega arith }
-
-module _ (ds : List ℕ) (i v : ℕ) (in' : i < length ds) (so : Read ds i v) where
-  parts : (digit (get_or ds i 0) ≡ true) × (every digit (drop (i + 1) ds) ≡ true)
-  parts = and_parts (digit (get_or ds i 0)) _ (sym (at_drop_more (every digit) ds i 0 in') ∙ so.left)
-
-  pub digit-from : 48 ≤ get_or ds i 0
-  digit-from = (digit-within (get_or ds i 0) parts.0).0
-
-  pub read_more : (d : ℕ) → d ≡ get_or ds i 0 - 48 → Read ds (i + 1) (v * 10 + d)
-  read_more d is = record {
-    left = parts.1;
-    so_far = ap (λ n. read_on (v * 10 + n) (drop (i + 1) ds)) is ∙ sym (at_drop_more (read_on v) ds i 0 in') ∙ so.so_far;
-    below = let b = so.below in omega (arith, is, digit-within (get_or ds i 0) parts.0, pow-add 10 i 1, b);
-  }
-
-pub read_all : (ds : List ℕ) (i v : ℕ) → length ds ≤ i → Read ds i v → v ≡ read_on 0 ds
-read_all ds i v past so = sym (at_drop_all (read_on v) ds i past) ∙ so.so_far

@@ -1,4 +1,4 @@
-ghost use Rattle.texts.specs.Lines.{end_from, goes_on, line_at, line_end, lines, word_end};
+ghost use Rattle.texts.specs.Lines.{end_from, goes_on, in_word, line_at, line_end, lines, word_end};
 ghost use Rattle.std.specs.List.{slice_get};
 ghost use Rattle.std.specs.Option.{option_map};
 ghost use Rattle.std.specs.Prelude.{◌≡◌, ◌≤◌, min, length};
@@ -14,12 +14,18 @@ pub enum Run {
     NoSpace,
 }
 
+fn in_word(b: u8) -> bool
+    ensures { result ≡ in_word b }
+{
+    !matches!(b, b' ' | b'\n')
+}
+
 fn goes_on(run: Run, b: u8) -> bool
     ensures { result ≡ goes_on run b }
 {
     match run {
         Run::InLine => b != b'\n',
-        Run::InWord => b != b' ' && b != b'\n',
+        Run::InWord => in_word(b),
         Run::NoSpace => b != b' ',
     }
 }
@@ -57,6 +63,7 @@ pub fn word_end(text: &[u8], from: usize) -> usize
 }
 
 // The line that comes after `before` others.
+#[tactic(auto, using(crate::proofs::Sought::sought_next))]
 fn line_after(text: &[u8], before: u32) -> Option<&[u8]>
     ensures { option_map (λ x. x.now) result ≡ slice_get (lines text.now) before }
 {
