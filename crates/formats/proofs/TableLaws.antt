@@ -5,7 +5,7 @@ use Rattle.meaning.specs.Tables.{Contents}
 use Rattle.texts.specs.Lines.{words}
 use Rattle.texts.specs.Numbers.{every}
 use Rattle.clocks.specs.Letters.{lawful_name}
-use Rattle.tables.specs.Lawful.{different, lawful}
+use Rattle.tables.specs.Lawful.{different}
 use Rattle.rows.specs.Rows.{number_in}
 use Rattle.rows.specs.declared.cell.Cell.TheVariants.{Absent}
 use Rattle.rows.specs.declared.cell.RowKind.TheVariants.{Tick, Place as Place', Edge as Edge'}

@@ -1,5 +1,5 @@
 -- What is read of a table text is written so, and is lawful. Assumes nothing.
-use Rattle.std.proofs.Common.{◌≡◌, ℕ, zero, suc, ◌+◌, ◌-◌, ◌≤◌, Bool, true, false, cond, ◌&&◌, ltb, leb, ◌⊎◌, List, [], ◌∷◌, ◌++◌, map, length, get_or, drop, replicate, Ok, codes, sym, refl, ap, ◌∙◌, subst, ⊎_elim, append_assoc, arith}
+use Rattle.std.proofs.Common.{◌≡◌, ℕ, zero, suc, ◌+◌, ◌-◌, ◌≤◌, Bool, true, false, cond, ◌&&◌, ltb, leb, List, [], ◌∷◌, ◌++◌, map, length, get_or, drop, replicate, Ok, codes, sym, refl, ap, ◌∙◌, subst, ⊎_elim, append_assoc, arith}
 use Rattle.std.proofs.lemmas.Slice.Eq.{bytes_eq-Decides}
 use Rattle.std.proofs.lemmas.List.{length_push, length-append, length-replicate, take_at, nil_from_length}
 use Rattle.std.proofs.lemmas.Bool.{and_parts, and_from, leb-true, le-leb, lt-ltb, le-ltb, eq-eqb, cond-true, cond-false, false≢true}
@@ -7,7 +7,7 @@ use Rattle.std.specs.Str.{bytes_eq}
 use Rattle.meaning.specs.declared.values.Bound.{Bound}
 use Rattle.meaning.specs.declared.values.Bound.TheVariants.{Any}
 use Rattle.meaning.specs.declared.values.Place.{Place}
-use Rattle.texts.specs.Lines.{words, unwords, unlines, lines, ended}
+use Rattle.texts.specs.Lines.{words, unwords, unlines, lines}
 use Rattle.texts.specs.Numbers.{every}
 use Rattle.texts.proofs.Pieces.{unwords-of-words}
 use Rattle.clocks.specs.Letters.{lawful_name}

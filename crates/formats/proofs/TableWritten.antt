@@ -7,7 +7,7 @@ use Rattle.meaning.specs.declared.values.Bound.TheVariants.{Any, Never, AtLeast,
 use Rattle.meaning.specs.declared.values.Place.{Place}
 use Rattle.meaning.specs.declared.values.Edge.{Edge}
 use Rattle.meaning.specs.Tables.{Contents}
-use Rattle.texts.specs.Lines.{words, lines}
+use Rattle.texts.specs.Lines.{words}
 use Rattle.texts.specs.Numbers.{every}
 use Rattle.clocks.specs.Letters.{lawful_name}
 use Rattle.tables.specs.Lawful.{different, lawful_bound, is_any, lawful_bounds, lawful_edge, lawful_edges, lawful_names, lawful}

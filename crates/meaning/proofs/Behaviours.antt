@@ -1,16 +1,15 @@
 -- The set of places after a word decides whether it is a behaviour. Assumes nothing.
-use Rattle.std.proofs.Common.{◌≡◌, ℕ, zero, suc, ◌+◌, ◌<◌, ◌≤◌, Bool, true, false, ◌&&◌, ltb, List, [], ◌∷◌, map, length, Some, Decides, sym, refl, ap, ◌∙◌, subst, zero-add, arith}
+use Rattle.std.proofs.Common.{◌≡◌, ℕ, zero, suc, ◌<◌, ◌≤◌, Bool, true, ◌&&◌, ltb, List, [], ◌∷◌, map, length, Some, Decides, sym, refl, ap, ◌∙◌, subst, zero-add, arith}
 use mathlib.Core.List.{Memᴰ}
 use Rattle.std.proofs.lemmas.Bool.{and_parts, and_from, ltb-true, lt-ltb}
 use Rattle.std.specs.List.{slice_get, AllByRecursion}
 use Rattle.meaning.specs.declared.values.Pair.{Pair}
 use Rattle.meaning.specs.declared.values.Place.{Place}
 use Rattle.meaning.specs.declared.values.Edge.{Edge}
-use Rattle.meaning.specs.Words.{Word}
-use Rattle.meaning.specs.Tables.{Contents, automaton, Accepts, Behaviour}
-use Rattle.meaning.specs.Stepping.{Cells, Move, CappedReads, never, aged, advanced, capped, restarted, moves, in_set, meets, places_from, starts, finals, ends, reached, cap_of}
+use Rattle.meaning.specs.Tables.{Contents, Accepts, Behaviour}
+use Rattle.meaning.specs.Stepping.{Cells, Move, CappedReads, never, aged, advanced, restarted, moves, in_set, meets, places_from, starts, finals, ends, reached, cap_of}
 use Rattle.meaning.proofs.Readings.{reading-at}
-use Rattle.meaning.proofs.Paths.{Path, Within, Reaches, reaches-from-accepts, accepts-from-reaches}
+use Rattle.meaning.proofs.Paths.{Path, Within, reaches-from-accepts, accepts-from-reaches}
 use Rattle.meaning.proofs.Sets.{path-from-end, end-from-path, marked-from-place, place-from-marked}
 use Rattle.meaning.proofs.Bits.{meets-tells, meets-from}
 use Rattle.meaning.proofs.Capping.{capped_move, moves-capped, ends-capped}

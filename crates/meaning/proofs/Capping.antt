@@ -1,5 +1,5 @@
 -- Capping at the cap plus 1 changes no bound and no later step. Assumes nothing.
-use Rattle.std.proofs.Common.{◌≡◌, ℕ, suc, ◌+◌, ◌^◌, ◌≤◌, min, max, Bool, true, false, cond, ◌&&◌, eqb, ltb, leb, List, [], ◌∷◌, map, length, set, Some, None, Option, sym, refl, ap, ◌∙◌, subst, arith}
+use Rattle.std.proofs.Common.{◌≡◌, ℕ, ◌+◌, ◌^◌, ◌≤◌, min, Bool, true, false, cond, ◌&&◌, eqb, ltb, leb, List, [], ◌∷◌, map, set, Some, None, Option, sym, refl, ap, ◌∙◌, arith}
 use lib.Bits.{bit_or}
 use Rattle.std.proofs.lemmas.List.{map-set}
 use Rattle.std.proofs.lemmas.Bool.Decides.{nat_tests}
@@ -8,7 +8,7 @@ use Rattle.meaning.specs.declared.values.Pair.{Pair}
 use Rattle.meaning.specs.declared.values.Bound.{Bound}
 use Rattle.meaning.specs.declared.values.Bound.TheVariants.{Any, Never, AtLeast, Between}
 use Rattle.meaning.specs.declared.values.Edge.{Edge}
-use Rattle.meaning.specs.Stepping.{Cells, Move, never, aged, capped, advanced, restarted, moves, holds, holds_all, in_set, leaves, targets, ends, top, top_of_bounds, cap_of}
+use Rattle.meaning.specs.Stepping.{Cells, Move, never, aged, capped, advanced, restarted, moves, holds, holds_all, in_set, targets, ends, top, top_of_bounds, cap_of}
 
 abbrev limited : ℕ → Option ℕ → Option ℕ
 limited c v = option_map (λ x. min x (c + 1)) v

@@ -1,5 +1,5 @@
 -- Worked examples, stated with the published definitions.
-use Rattle.std.specs.Prelude.{ℕ, true, false, List, [], ◌∷◌, Some, None, codes, Option}
+use Rattle.std.specs.Prelude.{ℕ, true, false, [], ◌∷◌, Some, None, codes, Option}
 use Rattle.std.specs.List.{AllByRecursion}
 use Rattle.meaning.specs.declared.values.Pair.{Pair}
 use Rattle.meaning.specs.declared.values.Bound.{Bound}

@@ -3,7 +3,6 @@ use Rattle.std.proofs.Common.{◌≡◌, ℕ, suc, ◌+◌, ◌<◌, Bool, true,
 use Rattle.std.proofs.lemmas.List.{length_push, append_assoc, drop_more, set_at}
 use Rattle.std.proofs.lemmas.Bool.{and_right, leb-false}
 use Rattle.std.specs.Option.{option_map}
-use Rattle.texts.specs.Lines.{lines}
 use Rattle.rows.specs.Rows.{row_of}
 use Rattle.rows.specs.declared.cell.Cell.{Cell}
 use Rattle.rows.specs.declared.cell.RowKind.TheVariants.{Claim as Claim'}

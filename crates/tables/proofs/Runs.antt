@@ -1,12 +1,11 @@
 -- The walk along a word, turn by turn, and what it tells at its end. Assumes nothing.
-use Rattle.std.proofs.Common.{◌≡◌, ℕ, zero, suc, ◌+◌, ◌-◌, ◌<◌, ◌≤◌, Bool, true, false, not, ◌&&◌, eqb, ltb, List, [], ◌∷◌, length, get_or, take, drop, Some, Decides, sym, refl, ap, ◌∙◌, subst, arith}
+use Rattle.std.proofs.Common.{◌≡◌, ℕ, zero, suc, ◌+◌, ◌-◌, ◌<◌, ◌≤◌, true, not, ◌&&◌, eqb, ltb, List, [], ◌∷◌, length, get_or, take, drop, Some, Decides, sym, refl, ap, ◌∙◌, subst, arith}
 use lib.Bits.{bit_and}
 use Rattle.std.proofs.lemmas.List.{at_drop_more, at_drop_all}
 use Rattle.std.proofs.lemmas.Bool.{lt-ltb}
 use Rattle.std.proofs.lemmas.Bool.Decides.{Decides-at}
 use Rattle.std.specs.List.{slice_get}
 use Rattle.meaning.specs.declared.values.Pair.{Pair}
-use Rattle.meaning.specs.declared.values.Edge.{Edge}
 use Rattle.meaning.specs.Tables.{Contents, Behaviour}
 use Rattle.meaning.specs.Stepping.{Cells, CappedReads, never, advanced, restarted, moves, cells_after, finals, targets, ends, starts, reached, cap_of}
 use Rattle.meaning.proofs.Behaviours.{Fair, behaves-decides, capped-reading-at}

@@ -1,5 +1,5 @@
 -- What names and tables hold, as the definitions speak of it.
-use Rattle.std.specs.Prelude.{List, vec_items}
+use Rattle.std.specs.Prelude.{vec_items}
 use Rattle.meaning.specs.Tables.{Contents}
 use Rattle.tables.specs.declared.table.Table.{Table}
 use Rattle.tables.specs.Forms.{form}

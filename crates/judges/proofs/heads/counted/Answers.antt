@@ -1,4 +1,4 @@
-use Rattle.std.proofs.Common.{map, vec_items, sym, ◌∙◌, arith, true-eqb, false-eqb}
+use Rattle.std.proofs.Common.{map, vec_items, arith, true-eqb, false-eqb}
 use Rattle.std.proofs.lemmas.List.{length-map}
 use Rattle.clocks.specs.Texts.{text}
 use Rattle.judges.proofs.EdgeHeads.{names-too-few, names-too-many, names-counted}

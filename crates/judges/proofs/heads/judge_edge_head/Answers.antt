@@ -1,4 +1,4 @@
-use Rattle.std.proofs.Common.{◌≡◌, List, map, vec_items, sym, ◌∙◌, subst}
+use Rattle.std.proofs.Common.{map, vec_items, sym, subst}
 use Rattle.clocks.specs.Texts.{text}
 use Rattle.rows.specs.Rows.{words_from}
 use Rattle.formats.specs.Faults.{Fails, Agrees, line_number, line_in}

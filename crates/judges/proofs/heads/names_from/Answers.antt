@@ -1,4 +1,4 @@
-use Rattle.std.proofs.Common.{◌≡◌, List, [], map, vec_items, sym, ap, subst}
+use Rattle.std.proofs.Common.{List, map, vec_items, sym, subst}
 use Rattle.clocks.specs.declared.name.Name.{Name}
 use Rattle.clocks.specs.Texts.{text}
 use Rattle.rows.specs.Rows.{words_from}

@@ -1,10 +1,8 @@
-use Rattle.std.proofs.Common.{◌≡◌, map, take, Some, None, Ok, Err, Option, Result, sym, ap, ◌∙◌}
+use Rattle.std.proofs.Common.{◌≡◌, map, take, Some, None, Ok, Err, sym, ap, ◌∙◌}
 use Rattle.std.specs.Option.{option_map}
 use Rattle.clocks.specs.Texts.{text}
 use Rattle.rows.specs.Rows.{row_of}
-use Rattle.rows.specs.declared.cell.Row.{Row}
-use Rattle.formats.specs.EntryLines.{Says}
-use Rattle.formats.specs.Faults.{Agrees, line_number, line_in, limits_in}
+use Rattle.formats.specs.Faults.{line_number, line_in, limits_in}
 use Rattle.formats.specs.Walk.{row_step, row_gives}
 use Rattle.formats.proofs.ReaderSteps.{cells-said}
 use Rattle.formats.proofs.Steps.{some_row, row-judged, row-given, row-refused}

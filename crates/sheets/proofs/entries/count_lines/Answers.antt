@@ -1,4 +1,4 @@
-use Rattle.std.proofs.Common.{◌≡◌, length, Some, None, Ok, sym, ap, ◌∙◌, arith}
+use Rattle.std.proofs.Common.{◌≡◌, length, Some, None, Ok, ap, ◌∙◌, arith}
 use Rattle.std.specs.Option.{option_map}
 use Rattle.formats.specs.EntriesText.{entry_start, with_claim}
 use Rattle.formats.specs.EntryLines.{event_names, entry_next, entry_gives}

@@ -1,4 +1,4 @@
-use Rattle.std.proofs.Common.{◌≡◌, suc, length, Some, None, Ok, sym, refl}
+use Rattle.std.proofs.Common.{◌≡◌, suc, length, Some, None, Ok, refl}
 use Rattle.formats.specs.EntriesText.{entry_start, with_claim}
 use Rattle.formats.specs.EntryLines.{event_names, entry_next, entry_gives}
 use Rattle.formats.specs.Faults.{line_in, line_number}

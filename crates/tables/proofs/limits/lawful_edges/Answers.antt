@@ -1,4 +1,4 @@
-use Rattle.std.proofs.Common.{◌&&◌, length, sym, ap, ◌∙◌}
+use Rattle.std.proofs.Common.{length, sym}
 use Rattle.std.proofs.lemmas.Bool.{le-leb, and_right, and_from}
 use Rattle.tables.specs.Lawful.{lawful_edge}
 use Rattle.texts.proofs.Lists.{every_more, every-fails, every-all}

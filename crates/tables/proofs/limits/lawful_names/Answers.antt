@@ -1,4 +1,4 @@
-use Rattle.std.proofs.Common.{sym, ◌∙◌, true-eqb, false-eqb}
+use Rattle.std.proofs.Common.{true-eqb, false-eqb}
 use Rattle.tables.proofs.Lawfulness.{too-few-names, too-many-names, lawful-names-is}
 use Rattle.tables.proofs.limits.lawful_names.Goals as goal
 use Rattle.tables.proofs.limits.lawful_names.Goals.{then-is_empty-via-then-is_empty, then-is_empty-via-else-is_empty+then-names-gt8}

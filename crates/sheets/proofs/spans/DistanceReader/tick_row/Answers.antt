@@ -1,4 +1,4 @@
-use Rattle.std.proofs.Common.{ℕ, List, Ok, sym, ap, ◌∙◌}
+use Rattle.std.proofs.Common.{ℕ, List, Ok, ap, ◌∙◌}
 use Rattle.formats.specs.declared.distance.DistanceStage.TheVariants.{TickRows, LineHead}
 use Rattle.formats.specs.Faults.{line_in, line_number}
 use Rattle.sheets.specs.DistanceReading.{distance_parts_of}

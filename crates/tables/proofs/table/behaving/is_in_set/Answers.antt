@@ -1,4 +1,3 @@
-use Rattle.std.proofs.Common.{◌≡◌}
 use Rattle.tables.proofs.Masks.{bit-is-in-set}
 use Rattle.tables.proofs.table.behaving.is_in_set.Goals as goal
 
