@@ -3,7 +3,7 @@ ghost use Rattle.std.specs.Cmp.{IsEquivalence};
 ghost use Rattle.std.specs.Prelude.{◌≡◌};
 
 // The place of the first element that is the same as the sought one; None exactly when none is.
-// `PartialEq` promises no laws, so the answer is told for each type whose sameness is an equivalence.
+// `PartialEq` does not promise that an element is the same as itself, so the answer is told for each type whose sameness is an equivalence.
 pub fn position<T: PartialEq>(list: &[T], sought: &T) -> Option<usize>
     ensures value { (o : IsEquivalence T.PartialEq.eq) → result ≡ first_of (λ y. T.PartialEq.eq y sought.now) list.now }
     ensures first { (o : IsEquivalence T.PartialEq.eq) → First (λ y. T.PartialEq.eq y sought.now) list.now result }

@@ -1,4 +1,5 @@
 ghost use Rattle.judges.specs.Cursor.{StandsAt, Starts, Steps};
+ghost use Rattle.std.specs.Prelude.{◌≡◌, length, nat_lt};
 
 use formats::line::TextLine;
 use texts::lines::line_end;
@@ -9,6 +10,13 @@ pub struct Lines<'a> {
     text: &'a [u8],
     at: usize,
     number: u32,
+}
+
+// Whether a byte stands where a line ends. It is byte 10, and ends the line; else the text ends there.
+fn is_ended(text: &[u8], end: usize) -> bool
+    ensures { result ≡ nat_lt end (length text.now) }
+{
+    end < text.len()
 }
 
 // The line at a place; none at the end of the text.
@@ -22,7 +30,7 @@ fn line_from(text: &[u8], at: usize, number: u32) -> Option<TextLine<'_>>
     Some(TextLine {
         bytes: &text[at..end],
         last: end + 1 >= text.len(),
-        ended: end < text.len(),
+        ended: is_ended(text, end),
         number,
     })
 }

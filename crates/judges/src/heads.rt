@@ -1,13 +1,13 @@
 ghost use Rattle.judges.specs.Heads.{After, NamesAfter, name_list, judged_names};
 ghost use Rattle.formats.specs.Faults.{Agrees, line_in};
 ghost use Rattle.formats.specs.TableText.{edge_head_wrong};
-ghost use Rattle.formats.specs.Walk.{head_step};
+ghost use Rattle.formats.specs.Walk.{head_step, misspaced};
 ghost use Rattle.rows.specs.Rows.{words_from};
 ghost use Rattle.clocks.specs.Letters.{lawful_name};
 ghost use Rattle.clocks.specs.Search.{first_of};
 ghost use Rattle.clocks.specs.Texts.{text};
 ghost use Rattle.texts.specs.Lines.{words};
-ghost use Rattle.std.specs.Prelude.{◌≡◌, ℕ, not, ◌&&◌, List, map, drop, is_some, if◌then◌else◌, Some, None, Ok};
+ghost use Rattle.std.specs.Prelude.{◌≡◌, ℕ, false, not, ◌&&◌, List, map, drop, is_some, if◌then◌else◌, Some, None, Ok};
 ghost use Rattle.std.specs.Option.{option_map};
 ghost use Rattle.std.specs.Str.{bytes_eq};
 
@@ -85,6 +85,14 @@ pub fn judge_edge_head(heap: Global, line: TextLine) -> Result<Vec<Name>, LineFa
     if is_misspaced(line) {
         return Err(LineFault::Spacing);
     }
+    names_in(heap, line)
+}
+
+// The names in a line that is rightly spaced.
+fn names_in(heap: Global, line: TextLine) -> Result<Vec<Name>, LineFault>
+    requires { misspaced (line_in line) ≡ false }
+    ensures { Agrees (λ v. map text v.items) result (head_step 0 (edge_head_wrong (words line.entry.bytes.now)) (line_in line.entry) (drop 3 (words line.entry.bytes.now))) }
+{
     match names_place(line.bytes) {
         None => Err(LineFault::Head),
         Some(from) => match names_from(heap, line.bytes, from) {

@@ -31,7 +31,7 @@ fn any_number(digits: &[u8]) -> Result<Cell, WordFault>
     }
 }
 
-// Whether the bytes are the same. `==` promises that place by place, and this one of the whole.
+// Whether the bytes are the same.
 fn same_bytes(one: &[u8], other: &[u8]) -> bool
     ensures { result ≡ bytes_eq one.now other.now }
 {

@@ -1,2 +1,3 @@
 pub mod Walking
 pub mod EntriesWalk
+pub mod EntriesOf

@@ -80,6 +80,7 @@ pub fn read_entries(text: &[u8], names: &[Name], claims: &mut [Claim]) -> Result
 }
 
 // The claims that the text has for a table's events go to the front of the list, and their number is the answer.
+#[tactic(auto, using(crate::proofs::EntriesOf::entries_taken_of))]
 pub fn read_entries_of(
     text: &[u8],
     table: &Table,

@@ -1,4 +1,4 @@
--- Steps of `every` and `leading` along a list, and the cases of an `Option`. Assumes nothing.
+-- Steps of `every` and `prefix_len` along a list, and the cases of an `Option`. Assumes nothing.
 use Rattle.std.proofs.Common.{◌≡◌, ℕ, zero, suc, ◌+◌, ◌<◌, ◌≤◌, Bool, true, false, cond, ◌&&◌, List, [], ◌∷◌, length, get_or, drop, Some, None, sym, refl, ap, ◌∙◌, ⊎_elim, one-add, arith}
 use Rattle.std.proofs.lemmas.List.{at_drop_more, at_drop_all}
 use Rattle.std.proofs.lemmas.Bool.{cases_Bool}

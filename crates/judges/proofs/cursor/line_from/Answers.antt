@@ -22,7 +22,7 @@ returns c =
     record {
       within = omega (arith, next, c.line_end-end.ensures.within);
       here = lines_from t at end is more ∙ ap (λ n. bytes ∷ lines (drop n t)) (sym next);
-      stands = (λ i. record { bytes = bytes; last = last-here t at end is more i; ended = ended_here t at end is more i })
+      stands = (λ i. record { bytes = bytes; last = last-here t at end is more i; ended = (c.is_ended.ensures ∙ ended_here t at end is more) i })
           ∙ ap (λ n. line_here (ended t) bytes (lines (drop n t))) (sym next);
       numbered = refl;
     }
