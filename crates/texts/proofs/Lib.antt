@@ -1,9 +1,7 @@
 pub mod Lists
 pub mod Pieces
 pub mod Values
-pub mod Ends
 pub mod Sought
 pub mod Faulty
 pub mod Counting
 pub mod Shapes
-pub mod Walks

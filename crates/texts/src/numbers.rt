@@ -10,12 +10,7 @@ pub(crate) fn is_digit(b: u8) -> bool
 fn all_digits(word: &[u8]) -> bool
     ensures { result ≡ every digit word.now }
 {
-    for b in word {
-        if !is_digit(*b) {
-            return false;
-        }
-    }
-    true
+    word.iter().all(|b| is_digit(*b))
 }
 
 // Whether the word is a number: one to ten digits, without a needless 0 in front.
@@ -46,10 +41,7 @@ fn read_digits(digits: &[u8]) -> u64
 pub fn value(digits: &[u8]) -> Option<u64>
     ensures { result ≡ number digits.now }
 {
-    if !is_number(digits) {
-        return None;
-    }
-    Some(read_digits(digits))
+    is_number(digits).then(|| read_digits(digits))
 }
 
 #[cfg(test)]

@@ -43,12 +43,7 @@ fn is_letter(b: u8) -> bool
 fn all_letters(word: &[u8]) -> bool
     ensures { result ≡ every letter word.now }
 {
-    for b in word {
-        if !is_letter(*b) {
-            return false;
-        }
-    }
-    true
+    word.iter().all(|b| is_letter(*b))
 }
 
 // Whether the word has letters only, and at least one.
@@ -62,12 +57,7 @@ pub fn is_name(word: &[u8]) -> bool
 fn digits_in_front(word: &[u8]) -> usize
     ensures { result ≡ prefix_len digit word.now }
 {
-    for (i, b) in word.iter().enumerate() {
-        if !is_digit(*b) {
-            return i;
-        }
-    }
-    word.len()
+    word.iter().take_while(|b| is_digit(**b)).count()
 }
 
 fn after_stops(tail: &[u8]) -> Option<&[u8]>
@@ -85,11 +75,8 @@ fn bound_parts(word: &[u8]) -> Option<(&[u8], &[u8])>
 {
     let (first, tail) = word.split_at(digits_in_front(word));
     let second = after_stops(tail)?;
-    if is_number(first) && (second.is_empty() || is_number(second)) {
-        Some((first, second))
-    } else {
-        None
-    }
+    let numbers = is_number(first) && (second.is_empty() || is_number(second));
+    numbers.then_some((first, second))
 }
 
 // What the word is, by its shape alone.
