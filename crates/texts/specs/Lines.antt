@@ -50,6 +50,12 @@ ended_after b (c ∷ t) = ended_after c t
 abbrev pub ended : List ℕ → Bool
 ended t = ended_after 10 t
 
+-- a text without the byte 10 at its end, if one is there
+abbrev pub unended : List ℕ → List ℕ
+unended [] = []
+unended (b ∷ []) = cond (b == 10) [] (b ∷ [])
+unended (b ∷ (c ∷ t)) = b ∷ unended (c ∷ t)
+
 abbrev pub filled : List ℕ → Bool
 filled [] = false
 filled (b ∷ w) = true

@@ -1,4 +1,4 @@
-ghost use Rattle.texts.specs.Lines.{end_from, goes_on, line_at, line_end, lines, word_end};
+ghost use Rattle.texts.specs.Lines.{end_from, goes_on, line_at, line_end, lines, unended, word_end};
 ghost use Rattle.std.specs.List.{slice_get, prefix_len};
 ghost use Rattle.std.specs.Option.{option_map};
 ghost use Rattle.std.specs.Prelude.{◌≡◌, ◌≤◌, min, length};
@@ -64,24 +64,25 @@ pub fn word_end(text: &[u8], from: usize) -> usize
     end_from(text, from, Run::InWord)
 }
 
+// The text without the byte 10 at its end, if one is there.
+#[tactic(auto, using(crate::proofs::Ends::unended_is))]
+fn unended(text: &[u8]) -> &[u8]
+    ensures { result.now ≡ unended text.now }
+{
+    match text {
+        [front @ .., b'\n'] => front,
+        _ => text,
+    }
+}
+
 // The line that comes after `before` others.
-#[tactic(auto, using(crate::proofs::Sought::sought_next))]
 fn line_after(text: &[u8], before: u32) -> Option<&[u8]>
     ensures { option_map (λ x. x.now) result ≡ slice_get (lines text.now) before }
 {
-    let mut start = 0;
-    for _ in 0..before {
-        let end = line_end(text, start);
-        // A line that nothing ends is the last one.
-        if end == text.len() {
-            return None;
-        }
-        start = end + 1;
-    }
-    if start == text.len() {
+    if text.is_empty() {
         return None;
     }
-    Some(&text[start..line_end(text, start)])
+    unended(text).split(|b| *b == b'\n').nth(before as usize)
 }
 
 // Line `number` of the text, from 1, without the byte that ends it.

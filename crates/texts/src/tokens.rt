@@ -8,7 +8,7 @@ ghost use Rattle.std.specs.Prelude.{◌≡◌};
 
 use crate::numbers::{is_digit, is_number};
 
-// A word of a text, which it borrows, with its line.
+// A word of a text, which it borrows. Each case has the line, since a fault of any word is told with its line.
 #[derive(Clone, Copy, Drop)]
 pub enum Token<'a> {
     // Letters only, at least one.
@@ -21,7 +21,7 @@ pub enum Token<'a> {
         bytes: &'a [u8],
         line: u32,
     },
-    // A number, two full stops, and a second number or nothing.
+    // A number, two full stops, and a second number or nothing. The parts are bytes as they stand in the word, so nothing is the empty part.
     Bound {
         first: &'a [u8],
         second: &'a [u8],
@@ -80,7 +80,7 @@ fn bound_parts(word: &[u8]) -> Option<(&[u8], &[u8])>
 }
 
 // What the word is, by its shape alone.
-pub fn token_of<'a>(word: &'a [u8], line: u32) -> Token<'a>
+pub fn token_of(word: &[u8], line: u32) -> Token<'_>
     ensures { piece result ≡ token_of word.now line }
 {
     if is_name(word) {
