@@ -44,6 +44,7 @@ pub fn check_bytes(text: &[u8], most: u32) -> Result<(), TextFault>
     if text.len() > most as usize {
         return Err(TextFault::TooLong);
     }
+    // No method of an `Option` makes an `Err` of what it holds, and `map_or` would say less plainly which case is which.
     match bad_line(text) {
         Some(line) => Err(TextFault::BadByte { line }),
         None => Ok(()),

@@ -1,16 +1,10 @@
 ghost use Rattle.texts.specs.Numbers.{digit, every, numeral, number, read_on};
 ghost use Rattle.std.specs.Prelude.{◌≡◌, true};
 
-pub(crate) fn is_digit(b: u8) -> bool
-    ensures { result ≡ digit b }
-{
-    matches!(b, b'0'..=b'9')
-}
-
 fn all_digits(word: &[u8]) -> bool
     ensures { result ≡ every digit word.now }
 {
-    word.iter().all(|b| is_digit(*b))
+    word.iter().all(|b| b.is_ascii_digit())
 }
 
 // Whether the word is a number: one to ten digits, without a needless 0 in front.
