@@ -52,10 +52,7 @@ fn leaves_set(edge: &Edge, set: u32, event: u8, reading: &Reading) -> bool
     requires { edge.now.source < 32 }
     ensures { result ≡ leaves edge.now set event reading.now.cells }
 {
-    if edge.event != event || !is_in_set(set, edge.source) {
-        return false;
-    }
-    reading.meets(&edge.bounds)
+    edge.event == event && is_in_set(set, edge.source) && reading.meets(&edge.bounds)
 }
 
 fn targets_of(edges: &[Edge], set: u32, event: u8, reading: &Reading) -> u32
@@ -132,10 +129,7 @@ impl Table {
     pub fn behaves(&self, word: &[Pair]) -> bool
         ensures { Decides result (Behaviour (contents self.now) word.now) }
     {
-        if word.is_empty() {
-            return false;
-        }
-        self.accepts(word)
+        !word.is_empty() && self.accepts(word)
     }
 
     fn reading_within(&self, word: &[Pair], position: usize) -> Reading
