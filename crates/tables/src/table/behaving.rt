@@ -73,21 +73,21 @@ impl Table {
     pub fn starts(&self) -> u32
         ensures { result ≡ starts (contents self.now).places }
     {
-        places_in_role(self.few_places(), Role::Start)
+        places_in_role(self.places(), Role::Start)
     }
 
     // The set of the places where a computation may end.
     pub fn finals(&self) -> u32
         ensures { result ≡ finals (contents self.now).places }
     {
-        places_in_role(self.few_places(), Role::Accepting)
+        places_in_role(self.places(), Role::Accepting)
     }
 
     // The targets of all edges that leave the set under the event and the reading.
     pub fn targets(&self, set: u32, event: u8, reading: &Reading) -> u32
         ensures { result ≡ targets (contents self.now).edges set event reading.now.cells }
     {
-        targets_of(self.small_edges(), set, event, reading)
+        targets_of(self.edges(), set, event, reading)
     }
 
     // One pair further: the wait passes, the edges take the event, and only then the event's own clock restarts.
