@@ -1,72 +1,46 @@
 -- What the code of a reading does to its cells. Assumes nothing.
-use Rattle.std.proofs.Common.{◌≡◌, ℕ, ◌+◌, ◌<◌, ◌≤◌, min, Bool, true, ◌&&◌, eqb, List, [], ◌∷◌, ◌++◌, map, length, get_or, take, drop, set, Some, None, Decides, Option, sym, refl, ap, ◌∙◌, subst, true≢false, append-nil, arith}
+use Rattle.std.proofs.Common.{◌≡◌, ℕ, suc, ◌+◌, ◌<◌, ◌≤◌, min, Bool, ◌&&◌, eqb, List, [], ◌∷◌, map, length, get_or, Some, None, Decides, Option, sym, refl, ap, true≢false, arith}
 use mathlib.Core.List.{map-map}
-use Rattle.std.proofs.lemmas.List.Edits.{map_over_more}
-use Rattle.std.proofs.lemmas.List.{take_all, drop_all, drop_more, get_or_default, length-append, length-map, length-take, length-drop}
-use Rattle.std.proofs.lemmas.Bool.{and_parts, eqb-true}
-use Rattle.std.specs.Cmp.{nat_eq_equiv}
-use Rattle.std.specs.Cmp.Lexicographic.{lists_equiv, options_equiv}
+use Rattle.std.proofs.lemmas.Slice.Eq.{slice_eq-Decides}
+use Rattle.std.proofs.lemmas.Bool.{eqb-true, eq-eqb}
+use Rattle.std.specs.List.{list_all, zip}
 use lib.Pointwise.{pointwise}
 use Rattle.std.specs.Option.{option_eq, option_map}
 use Rattle.meaning.specs.Stepping.{Cells, advanced, holds, holds_all}
 use Rattle.meaning.specs.declared.values.Bound.{Bound}
 use Rattle.clocks.specs.Cells.{advanced_cell}
+use Rattle.clocks.specs.declared.reading.Reading.{Reading}
 
--- ---- a wait passes
+-- A list with f of each element of another, place by place, is that list under f.
+pub mapped-at_places : {X Y : Type 0} (f : X → Y) (xs : List X) (ys : List Y) → length ys ≡ length xs → ((i : ℕ) (d : X) (e : Y) → i < length xs → get_or ys i e ≡ f (get_or xs i d)) → ys ≡ map f xs
+mapped-at_places f [] [] long at = refl
+mapped-at_places f [] (y ∷ ys) long at = absurd (omega arith)
+mapped-at_places f (x ∷ xs) [] long at = absurd (omega arith)
+mapped-at_places f (x ∷ xs) (y ∷ ys) long at =
+    let here = at 0 x y (omega arith) in
+    let rest = mapped-at_places f xs ys (omega arith) (λ i d e h. at (suc i) d e (omega arith)) in
+    λ i. here i ∷ rest i
 
--- ys is xs with the first i cells advanced
-abbrev pub Advanced : ℕ → ℕ → Cells → Cells → ℕ → Type 0
-Advanced c d xs ys i = ys ≡ map (advanced_cell c d) (take i xs) ++ drop i xs
+-- A wait advances each cell by itself.
+pub advanced_by_cells : (c d : ℕ) (cells : Cells) → map (advanced_cell c d) cells ≡ advanced c d cells
+advanced_by_cells c d cells = sym (map-map (option_map (λ n. min n (c + 1))) (option_map (λ n. n + d)) cells)
 
-pub advanced-more : (c d : ℕ) (xs ys : Cells) (i : ℕ) (e v : Option ℕ) → i < length xs → Advanced c d xs ys i → v ≡ advanced_cell c d (get_or ys i e) → Advanced c d xs (set ys i v) (i + 1)
-advanced-more c d xs ys i e v h inv new =
-    let long = simp (length-append, length-map, length-take, length-drop) at (ap length inv) in
-    let read = get_or_default ys i e (get_or ys i e) (omega arith) in
-    ap (set ys i) new ∙ map_over_more (advanced_cell c d) xs ys i (get_or ys i e) h inv read
-
-pub advanced-all : (c d : ℕ) (xs ys : Cells) (i : ℕ) → length xs ≤ i → Advanced c d xs ys i → ys ≡ advanced c d xs
-advanced-all c d xs ys i h inv =
-    let front = take_all i xs h in
-    let back = drop_all i xs h in
-    let whole = append-nil (map (advanced_cell c d) xs) in
-    let twice = map-map (option_map (λ n. min n (c + 1))) (option_map (λ n. n + d)) xs in
-    cc
-
--- ---- the bounds hold
-
--- whether all bounds hold is left to those from i on
-abbrev pub LeftFrom : ℕ → List Bound → Cells → Type 0
-LeftFrom i bs cells = holds_all (drop i bs) (drop i cells) ≡ holds_all bs cells
-
-module _ (bs : List Bound) (cells : Cells) (i : ℕ) where
-  holds_all-more : (b : Bound) (v : Option ℕ) → i < length bs → i < length cells → holds_all (drop i bs) (drop i cells) ≡ (holds (get_or bs i b) (get_or cells i v) && holds_all (drop (i + 1) bs) (drop (i + 1) cells))
-  holds_all-more b v h k = rw (drop_more bs i b h, drop_more cells i v k)
-
-  -- t is whether the bound at i holds
-  pub left_at : (t : Bool) (b : Bound) (v : Option ℕ) → i < length bs → i < length cells → LeftFrom i bs cells → t ≡ holds (get_or bs i b) (get_or cells i v) → (t && holds_all (drop (i + 1) bs) (drop (i + 1) cells)) ≡ holds_all bs cells
-  left_at t b v h k inv here = ap (λ u. u && holds_all (drop (i + 1) bs) (drop (i + 1) cells)) here ∙ sym (holds_all-more b v h k) ∙ inv
-
-  pub left-all : length bs ≤ i → LeftFrom i bs cells → true ≡ holds_all bs cells
-  left-all h inv = ap (λ l. holds_all l (drop i cells)) (sym (drop_all i bs h)) ∙ inv
+-- Where each bound has its cell, the bounds hold if each holds of its own.
+pub holds_all_by_pairs : (bs : List Bound) (cells : Cells) → length bs ≤ length cells → list_all (λ p. holds p.0 p.1) (zip bs cells) ≡ holds_all bs cells
+holds_all_by_pairs [] cells h = refl
+holds_all_by_pairs (b ∷ bs) [] h = absurd (omega arith)
+holds_all_by_pairs (b ∷ bs) (v ∷ cells) h = ap (λ rest. holds b v && rest) (holds_all_by_pairs bs cells (omega arith))
 
 -- ---- the same reading
 
-same-cell : (p q : Option ℕ) → option_eq eqb p q ≡ true → p ≡ q
-same-cell None None h = refl
-same-cell None (Some y) h = absurd (true≢false (sym h))
-same-cell (Some x) None h = absurd (true≢false (sym h))
-same-cell (Some x) (Some y) h = ap Some (eqb-true x y h)
+cell-decides : (p q : Option ℕ) → Decides (option_eq eqb p q) (p ≡ q)
+cell-decides None None = (λ _. refl, λ _. refl)
+cell-decides None (Some y) = (λ h. absurd (true≢false (sym h)), λ e. cc)
+cell-decides (Some x) None = (λ h. absurd (true≢false (sym h)), λ e. cc)
+cell-decides (Some x) (Some y) = (λ h. ap Some (eqb-true x y h), λ e. eq-eqb x y (cc))
 
-same-cells : (xs ys : Cells) → pointwise (option_eq eqb) xs ys ≡ true → xs ≡ ys
-same-cells [] [] h = refl
-same-cells [] (y ∷ ys) h = absurd (true≢false (sym h))
-same-cells (x ∷ xs) [] h = absurd (true≢false (sym h))
-same-cells (x ∷ xs) (y ∷ ys) h =
-    let p = and_parts (option_eq eqb x y) (pointwise (option_eq eqb) xs ys) h in
-    λ i. same-cell x y p.0 i ∷ same-cells xs ys p.1 i
-
--- What `==` answers of two lists of cells decides whether they are the same.
-pub cells-decide : (xs ys : Cells) → Decides (pointwise (option_eq eqb) xs ys) (xs ≡ ys)
-cells-decide xs ys =
-    let o = lists_equiv (options_equiv nat_eq_equiv) in
-    (same-cells xs ys, λ s. subst (λ zs. pointwise (option_eq eqb) xs zs ≡ true) s (o.refl xs))
+-- What `==` answers of two readings decides whether they are the same.
+pub readings_decide : (r s : Reading) (b : Bool) → b ≡ pointwise (option_eq eqb) r.cells s.cells → Decides b (r ≡ s)
+readings_decide r s b is =
+    let cells = slice_eq-Decides cell-decides r.cells s.cells b is in
+    (λ h. ap (λ l. record { cells = l }) (cells.0 h), λ e. cells.1 (ap (λ t. t.cells) e))

@@ -1,17 +1,15 @@
 ghost use Rattle.clocks.specs.Cells.{advanced_cell};
 ghost use Rattle.meaning.specs.Stepping.{never, advanced, restarted, holds, holds_all};
 ghost use Rattle.std.specs.Option.{option_eq};
-ghost use Rattle.std.specs.Ordering.{on};
-ghost use Rattle.std.specs.Prelude.{◌≡◌, None, Decides, nat_eq, slice_index_or};
+ghost use Rattle.std.specs.List.{list_all, zip};
+ghost use Rattle.std.specs.Prelude.{◌≡◌, None, Decides, nat_eq, slice_index_or, map};
 ghost use lib.Pointwise.{pointwise};
-ghost use Rattle.std.specs.Cmp.Rules.{comparing};
-ghost use Rattle.std.proofs.Common.{rules};
 
 use meaning::values::Bound;
 
 // For each of eight events the ticks since it last came, or None for never.
 // A number may be as large as a cap plus 1, and a cap is a u8, so a cell is a u16.
-#[derive(Clone, Copy, Drop)]
+#[derive(Clone, Copy, PartialEq, Eq, Drop)]
 pub struct Reading {
     pub cells: [Option<u16>; 8],
 }
@@ -25,14 +23,13 @@ impl Reading {
     }
 
     // The reading once the wait has passed. What lies above the cap becomes the cap plus 1, since no bound tells such numbers apart.
+    #[tactic(auto, using(crate::proofs::Cells::advanced_by_cells))]
     pub fn advanced(self, wait: u32, cap: u8) -> Reading
         ensures { result.cells ≡ advanced «cap» wait self.cells }
     {
-        let mut cells = self.cells;
-        for cell in cells.iter_mut() {
-            *cell = advanced_cell(*cell, wait, cap);
+        Reading {
+            cells: each_advanced(self.cells, wait, cap),
         }
-        Reading { cells }
     }
 
     // The reading once the event has come. An event at or past the count has no clock, so that it changes no cell.
@@ -51,36 +48,55 @@ impl Reading {
     pub fn cell(&self, event: u8) -> Option<u16>
         ensures { result ≡ slice_index_or self.now.cells event None }
     {
-        match self.cells.get(usize::from(event)) {
-            Some(cell) => *cell,
-            None => None,
-        }
+        self.cells.get(usize::from(event)).copied().flatten()
+    }
+
+    // Whether the readings are the same. This is what `==` answers, which is derived and tells it by the cells.
+    pub fn is_same(&self, other: &Reading) -> bool
+        ensures value { result ≡ pointwise (option_eq nat_eq) self.now.cells other.now.cells }
+        ensures same { Decides result (self.now ≡ other.now) }
+    {
+        is_equal(self, other)
     }
 
     // Whether each bound holds of its event's cell.
     pub fn meets(&self, bounds: &[Bound; 8]) -> bool
         ensures { result ≡ holds_all bounds.now self.now.cells }
     {
-        for (i, bound) in bounds.iter().enumerate() {
-            if !holds(*bound, self.cells[i]) {
-                return false;
-            }
-        }
-        true
+        each_holds(bounds, &self.cells)
     }
+}
+
+fn is_equal(one: &Reading, other: &Reading) -> bool
+    ensures { result ≡ pointwise (option_eq nat_eq) one.now.cells other.now.cells }
+{
+    *one == *other
+}
+
+fn each_advanced(cells: [Option<u16>; 8], wait: u32, cap: u8) -> [Option<u16>; 8]
+    ensures { result ≡ map (advanced_cell «cap» wait) cells }
+{
+    cells.map(|cell| advanced_cell(cell, wait, cap))
 }
 
 // The sum is taken in u64, where it cannot wrap, and fits a cell once it is capped.
 fn advanced_cell(cell: Option<u16>, wait: u32, cap: u8) -> Option<u16>
     ensures { result ≡ advanced_cell «cap» wait cell }
 {
-    match cell {
-        Some(ticks) => {
-            let ticks = u64::from(ticks) + u64::from(wait);
-            Some(ticks.min(u64::from(cap) + 1) as u16)
-        }
-        None => None,
-    }
+    cell.map(|ticks| {
+        let ticks = u64::from(ticks) + u64::from(wait);
+        ticks.min(u64::from(cap) + 1) as u16
+    })
+}
+
+// Whether each bound holds of the cell beside it.
+fn each_holds(bounds: &[Bound], cells: &[Option<u16>]) -> bool
+    ensures { result ≡ list_all (λ p. holds p.0 p.1) (zip bounds.now cells.now) }
+{
+    bounds
+        .iter()
+        .zip(cells)
+        .all(|(bound, cell)| holds(*bound, *cell))
 }
 
 // Whether the bound holds of one cell.
@@ -94,27 +110,6 @@ fn holds(bound: Bound, cell: Option<u16>) -> bool
         (Bound::Between(least, most), Some(ticks)) => u16::from(least) <= ticks
             && ticks <= u16::from(most),
         _ => false,
-    }
-}
-
-fn same_cells(one: &[Option<u16>; 8], other: &[Option<u16>; 8]) -> bool
-    ensures value { result ≡ pointwise (option_eq nat_eq) one.now other.now }
-    ensures same { Decides result (one.now ≡ other.now) }
-{
-    *one == *other
-}
-
-// A derived `==` would promise nothing of the cells. This one tells exactly whether two readings are the same.
-impl PartialEq for Reading {
-    ghost eq = { on (λ r. r.cells) (pointwise (option_eq nat_eq)) };
-
-    ghost laws = { Prim.search (comparing, rules) };
-
-    fn eq(&self, other: &Reading) -> bool
-        ensures value { result ≡ pointwise (option_eq nat_eq) self.now.cells other.now.cells }
-        ensures same { Decides result (self.now ≡ other.now) }
-    {
-        same_cells(&self.cells, &other.cells)
     }
 }
 

@@ -8,12 +8,7 @@ pub fn position<T: PartialEq>(list: &[T], sought: &T) -> Option<usize>
     ensures value { (o : IsEquivalence T.PartialEq.eq) → result ≡ first_of (λ y. T.PartialEq.eq y sought.now) list.now }
     ensures first { (o : IsEquivalence T.PartialEq.eq) → First (λ y. T.PartialEq.eq y sought.now) list.now result }
 {
-    for (i, element) in list.iter().enumerate() {
-        if is_same(element, sought) {
-            return Some(i);
-        }
-    }
-    None
+    list.iter().position(|element| is_same(element, sought))
 }
 
 fn is_same<T: PartialEq>(one: &T, other: &T) -> bool

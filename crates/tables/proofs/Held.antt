@@ -1,8 +1,8 @@
 -- What is known of every table, blank or lawful. Assumes nothing.
-use Rattle.std.proofs.Common.{◌≡◌, ℕ, zero, suc, ◌+◌, ◌<◌, ◌≤◌, Bool, true, ◌&&◌, eqb, ltb, leb, List, [], ◌∷◌, length, get_or, sym, refl, ap, ◌∙◌, subst, ⊎_elim, arith}
+use Rattle.std.proofs.Common.{◌≡◌, ℕ, zero, suc, ◌+◌, ◌<◌, ◌≤◌, Bool, true, ◌&&◌, eqb, ltb, leb, List, [], ◌∷◌, length, get_or, vec_items, sym, refl, ap, ◌∙◌, subst, ⊎_elim, arith}
 use mathlib.Core.List.Memᴰ
 use mathlib.Core.List.{Memᴰ}
-use Rattle.std.proofs.lemmas.List.{nil_from_length}
+use Rattle.std.proofs.lemmas.List.{nil_from_length, length-map}
 use Rattle.std.proofs.lemmas.Bool.{and_parts, or_cases, leb-true, ltb-true, eqb-true, le-ltb, cond-false, false≢true}
 use Rattle.meaning.specs.declared.values.Bound.{Bound}
 use Rattle.meaning.specs.declared.values.Bound.TheVariants.{Any, Never, AtLeast, Between}
@@ -11,6 +11,7 @@ use Rattle.meaning.specs.Tables.{Contents}
 use Rattle.meaning.proofs.Behaviours.{Fair}
 use Rattle.tables.specs.declared.table.Table.{Table}
 use Rattle.tables.specs.Held.{contents}
+use Rattle.clocks.specs.Texts.{text}
 use Rattle.texts.specs.Numbers.{every}
 use Rattle.clocks.specs.Letters.{lawful_name}
 use Rattle.tables.specs.Lawful.{lawful_bound, is_any, lawful_bounds, lawful_edge, lawful_names, different, lawful, is_blank, standing}
@@ -111,6 +112,12 @@ kept t = table-is-kept (contents t) t.lawful
 
 pub fair : (t : Table) → Fair (contents t)
 fair t = table-is-fair (contents t) t.lawful
+
+pub places_are_few : (t : Table) → length (vec_items t.places) ≤ 32
+places_are_few t = (kept t).places
+
+pub names_are_few : (t : Table) → length (vec_items t.names) ≤ 8
+names_are_few t = let long = length-map (vec_items t.names) text in omega (arith, long, (kept t).events)
 
 pub edges_fit : (t : Table) (e : Edge) → Memᴰ e (contents t).edges → (e.source < 32) × (e.target < 32)
 edges_fit t e mem =

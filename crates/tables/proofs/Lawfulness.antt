@@ -1,8 +1,11 @@
 -- What the tests of names, edges and caps tell of whole lists. Assumes nothing.
-use Rattle.std.proofs.Common.{◌≡◌, ℕ, ◌+◌, ◌-◌, ◌<◌, ◌≤◌, max, Bool, true, false, not, ◌&&◌, leb, List, [], ◌∷◌, map, length, get_or, take, drop, is_some, Option, sym, refl, ap, ◌∙◌, arith}
-use Rattle.std.proofs.lemmas.List.{drop_more, drop_all, take_rest, length-map}
+use Rattle.std.proofs.Common.{◌≡◌, ℕ, suc, ◌-◌, ◌<◌, ◌≤◌, max, Bool, true, false, cond, not, ◌&&◌, ltb, leb, List, [], ◌∷◌, map, length, get_or, take, drop, is_some, Option, sym, refl, ap, ◌∙◌, add-one, arith}
+use Rattle.std.proofs.lemmas.List.{drop_more, take_rest, length-map}
 use Rattle.std.proofs.lemmas.Bool.{and_from, and_left, and_right, le-leb, lt-leb}
 use Rattle.std.specs.Str.{bytes_eq}
+use Rattle.std.specs.List.{list_all, fold, enumerate_from}
+use Rattle.meaning.specs.Stepping.{top, top_of_bounds, cap_of}
+use Rattle.meaning.specs.declared.values.Bound.{Bound}
 use Rattle.meaning.specs.declared.values.Place.{Place}
 use Rattle.meaning.specs.declared.values.Edge.{Edge}
 use Rattle.clocks.specs.declared.name.Name.{Name}
@@ -12,43 +15,55 @@ use Rattle.tables.specs.Forms.{form}
 use Rattle.texts.specs.Numbers.{every}
 use Rattle.clocks.specs.Letters.{lawful_name}
 use Rattle.clocks.proofs.Firsts.{first_of-map}
-use Rattle.tables.specs.Lawful.{different, lawful_names, lawful_edges, lawful}
+use Rattle.tables.specs.Lawful.{different, is_any, lawful_bound, lawful_bounds, lawful_names, lawful_edge, lawful_edges, lawful}
 
 pub names-are-lawful : (names : List Name) → every lawful_name (map text names) ≡ true
 names-are-lawful [] = refl
 names-are-lawful (n ∷ names) = and_from _ _ n.lawful (names-are-lawful names)
 
-module _ (names : List Name) (i : ℕ) (name : Name) (in' : i < length names) (is : name ≡ get_or names i name) (d : Bool) (so : different (map text (drop i names)) ≡ d)
-    (r : Option ℕ) (found : r ≡ first_of (λ y. bytes_eq (text y) (text name)) (take (length names - (i + 1)) (drop (i + 1) names))) where
-  -- what is asked of the name at i
-  here : (not (is_some r) && different (map text (drop (i + 1) names))) ≡ d
-  here =
-      let later : r ≡ first_of (λ y. bytes_eq y (text name)) (map text (drop (i + 1) names)) =
-      found ∙ ap (first_of (λ y. bytes_eq (text y) (text name))) (take_rest names (i + 1)) ∙ sym (first_of-map (λ y. bytes_eq y (text name)) text (drop (i + 1) names)) in
-      let apart : drop i names ≡ name ∷ drop (i + 1) names = drop_more names i name in' ∙ ap (λ n. n ∷ drop (i + 1) names) (sym is) in
-      ap (λ x. not (is_some x) && different (map text (drop (i + 1) names))) later ∙ sym (ap (λ l. different (map text l)) apart) ∙ so
+-- ---- what the iterators of the code answer is what the definitions say
 
-  pub different-fails : true ≡ is_some r → false ≡ d
-  different-fails some = ap (λ b. not b && different (map text (drop (i + 1) names))) some ∙ here
+pub edges_by_all : (n m : ℕ) (edges : List Edge) → list_all (lawful_edge n m) edges ≡ every (lawful_edge n m) edges
+edges_by_all n m [] = refl
+edges_by_all n m (e ∷ edges) = ap (λ rest. lawful_edge n m e && rest) (edges_by_all n m edges)
 
-  pub different-more : false ≡ is_some r → different (map text (drop (i + 1) names)) ≡ d
-  different-more none = ap (λ b. not b && different (map text (drop (i + 1) names))) none ∙ here
+bounds-by_all-from : (n i : ℕ) (bs : List Bound) → list_all (λ p. cond (ltb p.0 n) (lawful_bound p.1) (is_any p.1)) (enumerate_from i bs) ≡ lawful_bounds n i bs
+bounds-by_all-from n i [] = refl
+bounds-by_all-from n i (b ∷ bs) =
+    ap (λ rest. cond (ltb i n) (lawful_bound b) (is_any b) && rest) (ap (λ k. list_all (λ p. cond (ltb p.0 n) (lawful_bound p.1) (is_any p.1)) (enumerate_from k bs)) (add-one i) ∙ bounds-by_all-from n (suc i) bs)
 
-pub different-all : (names : List Name) (i : ℕ) (d : Bool) → length names ≤ i → different (map text (drop i names)) ≡ d → true ≡ d
-different-all names i d past so = sym (ap (λ l. different (map text l)) (drop_all i names past)) ∙ so
+pub bounds_by_all : (n : ℕ) (bs : List Bound) → list_all (λ p. cond (ltb p.0 n) (lawful_bound p.1) (is_any p.1)) (enumerate_from 0 bs) ≡ lawful_bounds n 0 bs
+bounds_by_all n bs = bounds-by_all-from n 0 bs
 
--- a running maximum
-pub max-more : {X : Type 0} (f : X → ℕ) (F : List X → ℕ) → ((x : X) (ys : List X) → F (x ∷ ys) ≡ max (f x) (F ys))
-    → (xs : List X) (i : ℕ) (d : X) → i < length xs → (m v n t : ℕ) → v ≡ f (get_or xs i d) → n ≡ max v m
-    → max m (F (drop i xs)) ≡ t → max n (F (drop (i + 1) xs)) ≡ t
-max-more f F step xs i d in' m v n t is new so =
-    let e : F (drop i xs) ≡ max (f (get_or xs i d)) (F (drop (i + 1) xs)) = ap F (drop_more xs i d in') ∙ step _ _ in
-    omega (arith, e, so)
+-- a running maximum, from a on
+max-by_fold : {X : Type 0} (f : X → ℕ) (F : List X → ℕ) → F [] ≡ 0 → ((x : X) (xs : List X) → F (x ∷ xs) ≡ max (f x) (F xs)) → (a : ℕ) (xs : List X) → fold (λ m x. max (f x) m) a xs ≡ max a (F xs)
+max-by_fold f F none step a [] = omega (arith, none)
+max-by_fold f F none step a (x ∷ xs) = max-by_fold f F none step (max (f x) a) xs ∙ (let e = step x xs in omega (arith, e))
 
-pub max-all : {X : Type 0} (F : List X → ℕ) (xs : List X) (i m t : ℕ) → F [] ≡ 0 → length xs ≤ i → max m (F (drop i xs)) ≡ t → m ≡ t
-max-all F xs i m t none past so =
-    let e : F (drop i xs) ≡ 0 = ap F (drop_all i xs past) ∙ none in
-    omega (arith, e, so)
+pub top_by_fold : (bs : List Bound) → fold (λ m b. max (top b) m) 0 bs ≡ top_of_bounds bs
+top_by_fold bs = omega (arith, max-by_fold top top_of_bounds refl (λ _ _. refl) 0 bs)
+
+pub cap_by_fold : (edges : List Edge) → fold (λ m e. max (top_of_bounds e.bounds) m) 0 edges ≡ cap_of edges
+cap_by_fold edges = omega (arith, max-by_fold (λ e. top_of_bounds e.bounds) cap_of refl (λ _ _. refl) 0 edges)
+
+-- ---- whether a later name is the same as the first, where b says that none is
+module _ (names : List Name) (name : Name) (r : Option ℕ) (b : Bool) (some : 1 ≤ length names) (is : name ≡ get_or names 0 name)
+    (found : r ≡ first_of (λ y. bytes_eq (text y) (text name)) (take (length names - 1) (drop 1 names))) (none : is_some r ≡ not b) where
+  by-first : (xs : List Name) → take (length names - 1) (drop 1 names) ≡ xs → names ≡ name ∷ xs → different (map text names) ≡ (not (not b) && different (map text xs))
+  by-first xs later whole =
+      let same : r ≡ first_of (λ y. bytes_eq y (text name)) (map text xs) =
+      found ∙ ap (first_of (λ y. bytes_eq (text y) (text name))) later ∙ sym (first_of-map (λ y. bytes_eq y (text name)) text xs) in
+      ap (λ l. different (map text l)) whole ∙ (λ i. not (is_some (sym same i)) && different (map text xs)) ∙ (λ i. not (none i) && different (map text xs))
+
+  first-apart : drop 0 names ≡ name ∷ drop 1 names
+  first-apart = drop_more names 0 name (omega arith) ∙ ap (λ n. n ∷ drop 1 names) (sym is)
+
+  pub different-later : b ≡ true → (d : Bool) → d ≡ different (map text (take (length names - 1) (drop 1 names))) → d ≡ different (map text names)
+  different-later yes' d later =
+      later ∙ ap (λ l. different (map text l)) (take_rest names 1) ∙ sym (by-first (drop 1 names) (take_rest names 1) first-apart ∙ ap (λ c. not (not c) && different (map text (drop 1 names))) yes')
+
+  pub not-different : b ≡ false → b ≡ different (map text names)
+  not-different no' = no' ∙ sym (by-first (drop 1 names) (take_rest names 1) first-apart ∙ ap (λ c. not (not c) && different (map text (drop 1 names))) no')
 
 -- the tests that are left to each part of a table
 pub too-few-names : (names : List Name) → length names ≡ 0 → false ≡ lawful_names (map text names)

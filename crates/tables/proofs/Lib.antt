@@ -1,4 +1,3 @@
-pub mod Bounds
 pub mod Lawfulness
 pub mod Held
 pub mod Masks

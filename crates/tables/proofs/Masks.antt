@@ -1,12 +1,11 @@
 -- Sets of places as the code builds and asks them. Assumes nothing.
-use Rattle.std.proofs.Common.{◌≡◌, ℕ, ◌+◌, ◌*◌, ◌/◌, ◌%◌, ◌^◌, ◌<◌, ◌≤◌, Bool, true, false, cond, ◌&&◌, eqb, List, length, get_or, drop, sym, ap, ◌∙◌, add-one}
+use Rattle.std.proofs.Common.{◌≡◌, ℕ, ◌+◌, ◌*◌, ◌/◌, ◌%◌, ◌^◌, ◌<◌, ◌≤◌, Bool, true, false, cond, eqb, List, length, get_or, drop, sym, ap, ◌∙◌, add-one}
 use lib.Bits.{bit_and, bit_or, or_zero_r, and_mask}
 use Rattle.std.proofs.lemmas.Nat.{one_shl}
 use Rattle.std.proofs.lemmas.List.{at_drop_more, at_drop_all}
-use Rattle.std.proofs.lemmas.Bool.{ne_eqb, eq-eqb, and_left, and_right}
 use Rattle.meaning.specs.declared.values.Place.{Place}
 use Rattle.meaning.specs.declared.values.Edge.{Edge}
-use Rattle.meaning.specs.Stepping.{Cells, in_set, places_from, leaves, targets, holds_all}
+use Rattle.meaning.specs.Stepping.{Cells, in_set, places_from, leaves, targets}
 use Rattle.meaning.proofs.Bits.{union_assoc}
 
 -- `(set >> place) & 1 == 1`
@@ -53,14 +52,3 @@ module _ (es : List Edge) (s a : ℕ) (cells : Cells) (i acc whole : ℕ) (d : E
 
 pub targets-all : (es : List Edge) (s a : ℕ) (cells : Cells) (i acc whole : ℕ) → length es ≤ i → bit_or acc (targets (drop i es) s a cells) ≡ whole → acc ≡ whole
 targets-all es s a cells i acc whole past so = sym (or_zero_r acc) ∙ sym (ap (bit_or acc) (at_drop_all (λ l. targets l s a cells) es i past)) ∙ so
-
--- whether an edge leaves the set, part by part
-pub leaves-not-by-event : (e : Edge) (s a : ℕ) (cells : Cells) → (e.event ≡ a → ⊥) → false ≡ leaves e s a cells
-leaves-not-by-event e s a cells h = sym (and_right (in_set s e.source) _ (and_left _ (holds_all e.bounds cells) (ne_eqb _ _ h)))
-
-pub leaves-not-by-place : (e : Edge) (s a : ℕ) (cells : Cells) → false ≡ in_set s e.source → false ≡ leaves e s a cells
-leaves-not-by-place e s a cells h = sym (and_left _ (eqb e.event a && holds_all e.bounds cells) (sym h))
-
-pub leaves-by-bounds : (e : Edge) (s a : ℕ) (cells : Cells) (r : Bool) → e.event ≡ a → true ≡ in_set s e.source → r ≡ holds_all e.bounds cells → r ≡ leaves e s a cells
-leaves-by-bounds e s a cells r here inside is =
-    is ∙ sym (λ i. sym inside i && (eq-eqb _ _ here i && holds_all e.bounds cells))

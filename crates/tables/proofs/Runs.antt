@@ -1,5 +1,5 @@
 -- The walk along a word, turn by turn, and what it tells at its end. Assumes nothing.
-use Rattle.std.proofs.Common.{◌≡◌, ℕ, zero, suc, ◌+◌, ◌-◌, ◌<◌, ◌≤◌, true, not, ◌&&◌, eqb, ltb, List, [], ◌∷◌, length, get_or, take, drop, Some, Decides, sym, refl, ap, ◌∙◌, subst, arith}
+use Rattle.std.proofs.Common.{◌≡◌, ℕ, zero, suc, ◌+◌, ◌<◌, ◌≤◌, true, not, ◌&&◌, eqb, ltb, List, [], ◌∷◌, length, get_or, take, drop, Some, Decides, sym, refl, ◌∙◌, subst, arith}
 use lib.Bits.{bit_and}
 use Rattle.std.proofs.lemmas.List.{at_drop_more, at_drop_all}
 use Rattle.std.proofs.lemmas.Bool.{lt-ltb}
@@ -57,9 +57,7 @@ move_at age n (p ∷ w) cells (suc j) d h = move_at age n w (restarted n p.event
 
 -- The reading at a position, as the code finds it.
 pub reads_here : (c n : ℕ) (w : List Pair) (j : ℕ) (d : Pair) → n ≤ 8 → j < length w → (k : ℕ) (before r : Cells) → k ≡ c
-    → before ≡ cells_after (advanced c) n never (take (j - 0) w) → r ≡ advanced k (get_or w j d).wait before → CappedReads c n w j r
+    → before ≡ cells_after (advanced c) n never (take j w) → r ≡ advanced k (get_or w j d).wait before → CappedReads c n w j r
 reads_here c n w j d few in' k before r same came is =
-    let whole : j - 0 ≡ j = omega arith in
-    let past : before ≡ cells_after (advanced c) n never (take j w) = came ∙ ap (λ m. cells_after (advanced c) n never (take m w)) whole in
-    let e : r ≡ advanced c (get_or w j d).wait (cells_after (advanced c) n never (take j w)) = is ∙ (λ i. advanced (same i) (get_or w j d).wait (past i)) in
+    let e : r ≡ advanced c (get_or w j d).wait (cells_after (advanced c) n never (take j w)) = is ∙ (λ i. advanced (same i) (get_or w j d).wait (came i)) in
     subst (CappedReads c n w j) (sym e) (capped-reading-at c n w few j _ (move_at (advanced c) n w never j d in'))

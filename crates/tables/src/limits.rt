@@ -1,5 +1,6 @@
 ghost use Rattle.clocks.specs.Texts.{text};
 ghost use Rattle.tables.specs.Forms.{form};
+ghost use Rattle.std.specs.List.{list_all, enumerate_from};
 ghost use Rattle.tables.specs.Lawful.{is_any, lawful_bound, lawful_bounds, lawful_edge, lawful_edges, lawful_names, different, lawful};
 ghost use Rattle.meaning.specs.Stepping.{top, top_of_bounds, cap_of};
 ghost use Rattle.std.specs.Prelude.{◌≡◌, ◌≤◌, ◌&&◌, map, length, if◌then◌else◌, ◌==◌, nat_lt};
@@ -12,8 +13,7 @@ fn lawful_bound(bound: Bound) -> bool
     ensures { result ≡ lawful_bound bound }
 {
     match bound {
-        Bound::Any => true,
-        Bound::Never => true,
+        Bound::Any | Bound::Never => true,
         Bound::AtLeast(least) => least <= 250,
         Bound::Between(least, most) => least <= most && most <= 250,
     }
@@ -30,15 +30,19 @@ fn lawful_bound_at(bound: Bound, event: usize, events: usize) -> bool
     }
 }
 
+fn each_bound_lawful(bounds: &[Bound], events: usize) -> bool
+    ensures { result ≡ list_all (λ p. if nat_lt p.0 events then lawful_bound p.1 else is_any p.1) (enumerate_from 0 bounds.now) }
+{
+    bounds
+        .iter()
+        .enumerate()
+        .all(|(event, bound)| lawful_bound_at(*bound, event, events))
+}
+
 fn lawful_bounds(bounds: &[Bound; 8], events: usize) -> bool
     ensures { result ≡ (length bounds.now == 8 && lawful_bounds events 0 bounds.now) }
 {
-    for (i, bound) in bounds.iter().enumerate() {
-        if !lawful_bound_at(*bound, i, events) {
-            return false;
-        }
-    }
-    true
+    each_bound_lawful(bounds, events)
 }
 
 fn lawful_edge(edge: &Edge, events: usize, places: usize) -> bool
@@ -50,30 +54,27 @@ fn lawful_edge(edge: &Edge, events: usize, places: usize) -> bool
     usize::from(edge.event) < events && lawful_bounds(&edge.bounds, events)
 }
 
+fn each_edge_lawful(edges: &[Edge], events: usize, places: usize) -> bool
+    ensures { result ≡ list_all (lawful_edge events places) edges.now }
+{
+    edges.iter().all(|edge| lawful_edge(edge, events, places))
+}
+
+#[tactic(auto, using(crate::proofs::Lawfulness::edges_by_all))]
 fn lawful_edges(edges: &[Edge], events: usize, places: usize) -> bool
     ensures { result ≡ lawful_edges events places edges.now }
 {
-    if edges.len() > 64 {
-        return false;
-    }
-    for edge in edges {
-        if !lawful_edge(edge, events, places) {
-            return false;
-        }
-    }
-    true
+    edges.len() <= 64 && each_edge_lawful(edges, events, places)
 }
 
 // No name stands again later in the list.
 fn all_different(names: &[Name]) -> bool
     ensures { result ≡ different (map text names.now) }
 {
-    for (i, name) in names.iter().enumerate() {
-        if position(&names[i + 1..], name).is_some() {
-            return false;
-        }
+    match names {
+        [] => true,
+        [name, later @ ..] => position(later, name).is_none() && all_different(later),
     }
-    true
 }
 
 fn lawful_names(names: &[Name]) -> bool
@@ -102,8 +103,7 @@ fn top_of_bound(bound: Bound) -> u8
     ensures { result ≡ top bound }
 {
     match bound {
-        Bound::Any => 0,
-        Bound::Never => 0,
+        Bound::Any | Bound::Never => 0,
         Bound::AtLeast(least) => least,
         Bound::Between(least, most) => least.max(most),
     }
@@ -112,20 +112,16 @@ fn top_of_bound(bound: Bound) -> u8
 fn top_of_bounds(bounds: &[Bound; 8]) -> u8
     ensures { result ≡ top_of_bounds bounds.now }
 {
-    let mut most = 0;
-    for bound in bounds {
-        most = top_of_bound(*bound).max(most);
-    }
-    most
+    bounds
+        .iter()
+        .fold(0, |most, bound| top_of_bound(*bound).max(most))
 }
 
 // The largest number in the bounds, or 0.
 pub(crate) fn cap_of(edges: &[Edge]) -> u8
     ensures { result ≡ cap_of edges.now }
 {
-    let mut most = 0;
-    for edge in edges {
-        most = top_of_bounds(&edge.bounds).max(most);
-    }
-    most
+    edges
+        .iter()
+        .fold(0, |most, edge| top_of_bounds(&edge.bounds).max(most))
 }

@@ -14,9 +14,7 @@ fn padded(bytes: &[u8]) -> [u8; 12]
     ensures { take (length bytes.now) result ≡ bytes.now }
 {
     let mut letters = [b'a'; 12];
-    for (i, b) in bytes.iter().enumerate() {
-        letters[i] = *b;
-    }
+    letters[..bytes.len()].copy_from_slice(bytes);
     letters
 }
 
@@ -29,8 +27,10 @@ impl Name {
         if size > 12 || !is_name(bytes) {
             return None;
         }
-        let letters = padded(bytes);
-        Some(Name { letters, size })
+        Some(Name {
+            letters: padded(bytes),
+            size,
+        })
     }
 
     pub fn bytes(&self) -> &[u8]
@@ -40,13 +40,8 @@ impl Name {
     }
 }
 
-fn same_bytes(one: &[u8], other: &[u8]) -> bool
-    ensures { Decides result (one.now ≡ other.now) }
-{
-    *one == *other
-}
-
 // Two names are the same if their letters are.
+// A derived `==` would be no plainer: it compares what stands past the size too, and a place in a list of names is told by their letters.
 impl PartialEq for Name {
     ghost eq = { λ a b. bytes_eq (text a) (text b) };
 
@@ -56,6 +51,6 @@ impl PartialEq for Name {
         ensures value { result ≡ bytes_eq (text self.now) (text other.now) }
         ensures same { Decides result (text self.now ≡ text other.now) }
     {
-        same_bytes(self.bytes(), other.bytes())
+        *self.bytes() == *other.bytes()
     }
 }

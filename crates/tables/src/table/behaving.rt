@@ -52,10 +52,7 @@ fn leaves_set(edge: &Edge, set: u32, event: u8, reading: &Reading) -> bool
     requires { edge.now.source < 32 }
     ensures { result ≡ leaves edge.now set event reading.now.cells }
 {
-    if edge.event != event || !is_in_set(set, edge.source) {
-        return false;
-    }
-    reading.meets(&edge.bounds)
+    edge.event == event && is_in_set(set, edge.source) && reading.meets(&edge.bounds)
 }
 
 fn targets_of(edges: &[Edge], set: u32, event: u8, reading: &Reading) -> u32
@@ -76,21 +73,21 @@ impl Table {
     pub fn starts(&self) -> u32
         ensures { result ≡ starts (contents self.now).places }
     {
-        places_in_role(self.few_places(), Role::Start)
+        places_in_role(self.places(), Role::Start)
     }
 
     // The set of the places where a computation may end.
     pub fn finals(&self) -> u32
         ensures { result ≡ finals (contents self.now).places }
     {
-        places_in_role(self.few_places(), Role::Accepting)
+        places_in_role(self.places(), Role::Accepting)
     }
 
     // The targets of all edges that leave the set under the event and the reading.
     pub fn targets(&self, set: u32, event: u8, reading: &Reading) -> u32
         ensures { result ≡ targets (contents self.now).edges set event reading.now.cells }
     {
-        targets_of(self.small_edges(), set, event, reading)
+        targets_of(self.edges(), set, event, reading)
     }
 
     // One pair further: the wait passes, the edges take the event, and only then the event's own clock restarts.
@@ -132,28 +129,15 @@ impl Table {
     pub fn behaves(&self, word: &[Pair]) -> bool
         ensures { Decides result (Behaviour (contents self.now) word.now) }
     {
-        if word.is_empty() {
-            return false;
-        }
-        self.accepts(word)
-    }
-
-    fn reading_within(&self, word: &[Pair], position: usize) -> Reading
-        requires { position < length word.now }
-        ensures { CappedReads (cap_of (contents self.now).edges) (length (contents self.now).names) word.now position result.cells }
-    {
-        let before = self.walked(&word[0..position]).reading;
-        before.advanced(word[position].wait, self.cap())
+        !word.is_empty() && self.accepts(word)
     }
 
     // The reading at a position of a word, capped at the table's cap; none past its end.
     pub fn reading_at(&self, word: &[Pair], position: usize) -> Option<Reading>
         ensures { MatchOption result (length word.now ≤ position) (λ x. (position < length word.now) × CappedReads (cap_of (contents self.now).edges) (length (contents self.now).names) word.now position x.cells) }
     {
-        if position < word.len() {
-            Some(self.reading_within(word, position))
-        } else {
-            None
-        }
+        let pair = word.get(position)?;
+        let before = self.walked(&word[..position]).reading;
+        Some(before.advanced(pair.wait, self.cap()))
     }
 }

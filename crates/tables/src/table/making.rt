@@ -3,8 +3,9 @@ ghost use Rattle.tables.specs.Forms.{form};
 ghost use Rattle.tables.specs.Held.{contents};
 ghost use Rattle.tables.specs.Lawful.{lawful, blank};
 ghost use Rattle.meaning.specs.Stepping.{cap_of};
-ghost use Rattle.std.specs.Prelude.{◌≡◌, map, length, if◌then◌else◌, Some, None};
+ghost use Rattle.std.specs.Prelude.{◌≡◌, ◌<◌, ◌≤◌, map, length, if◌then◌else◌, Some, None};
 ghost use Rattle.std.specs.Option.{option_map};
+ghost use mathlib.Core.List.{Memᴰ};
 
 use crate::limits::{are_lawful, cap_of};
 use crate::table::Table;
@@ -55,23 +56,27 @@ impl Table {
         self.names.as_slice()
     }
 
+    #[tactic(auto, using(crate::proofs::Held::places_are_few))]
     pub fn places(&self) -> &[Place]
-        ensures { result.now ≡ (contents self.now).places }
+        ensures value { result.now ≡ (contents self.now).places }
+        ensures few { length result.now ≤ 32 }
     {
         self.places.as_slice()
     }
 
     pub fn edges(&self) -> &[Edge]
-        ensures { result.now ≡ (contents self.now).edges }
+        ensures value { result.now ≡ (contents self.now).edges }
+        ensures ends { (e : Edge) → Memᴰ e result.now → (e.source < 32) × (e.target < 32) }
     {
         self.edges.as_slice()
     }
 
     // How many events the table has.
+    #[tactic(auto, using(crate::proofs::Held::names_are_few))]
     pub fn events(&self) -> u8
         ensures { result ≡ length (contents self.now).names }
     {
-        self.few_names().len() as u8
+        self.names.len() as u8
     }
 
     // The largest number in the table's bounds, or 0.

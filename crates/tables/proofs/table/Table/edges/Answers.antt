@@ -1,7 +1,7 @@
 use mathlib.Core.List.{Memᴰ}
 use Rattle.std.proofs.Common.{subst}
 use Rattle.tables.proofs.Held.{edges_fit}
-use Rattle.tables.proofs.table.Table.small_edges.Goals as goal
+use Rattle.tables.proofs.table.Table.edges.Goals as goal
 
 pub returns : goal.returns
 returns c = record {
