@@ -3,7 +3,7 @@ use Rattle.std.proofs.Common.{◌≡◌, ℕ, ◌+◌, ◌-◌, ◌<◌, ◌≤�
 use Rattle.std.proofs.lemmas.List.{append-nil, append_assoc, length-set, length-drop, length-take-le, take-append-drop, take_more_set, drop-set-lt, drop-drop, drop_all, drop_more, drop-replicate}
 use Rattle.std.proofs.lemmas.List.FromFn.{length-enumerate_from, get_or-enumerate_from}
 use Rattle.std.proofs.lemmas.Option.{slice_get-get_or, slice_get_past}
-use Rattle.std.proofs.lemmas.Bool.{cases_lt, cond-true, cond-false, le-leb, lt-leb, ne_eqb}
+use Rattle.std.proofs.lemmas.Bool.{cases_lt, cond-true, le-leb}
 use Rattle.std.proofs.lemmas.Bool.Decides.{nat_tests}
 use Rattle.std.specs.List.{slice_get, slice_split, onto_first, enumerate_from}
 use Rattle.texts.specs.Lines.{onto, words}
@@ -13,22 +13,13 @@ use Rattle.rows.specs.declared.cell.Cell.{Cell}
 use Rattle.rows.specs.declared.cell.Cell.TheVariants.{Absent}
 use Rattle.rows.specs.declared.cell.Column.{Column}
 use Rattle.rows.specs.declared.cell.Column.TheVariants.{YesOrNo}
-use Rattle.rows.specs.declared.cell.RowKind.{RowKind}
 use Rattle.rows.specs.declared.cell.WordFault.{WordFault}
-use Rattle.rows.specs.declared.cell.WordFault.TheVariants.{Misfit}
-use Rattle.rows.specs.Rows.{words_from, number_in, and_then, cell_of, cells_of, columns, word_stop, row_of, padded, row_result}
+use Rattle.rows.specs.Rows.{words_from, number_in, and_then, cell_of, cells_of, word_stop, padded, row_result}
 
 -- ---- words
 
 pub words-from-start : (line : List ℕ) → words_from line 0 ≡ words line
 words-from-start line = cond-true _ _ _ (le-leb 0 (length line) (omega arith))
-
--- where there is a word, it begins within the line
-pub word-begins-within : (line : List ℕ) (from : ℕ) → 0 < length (words_from line from) → from ≤ length line
-word-begins-within line from some = ⊎_elim
-    (λ past. absurd (omega (arith, some, ap length (cond-false _ (words (drop from line)) [] (lt-leb from (length line) past)))))
-    (λ within. within)
-    (cases_lt (length line) from)
 
 ltb-leb : (from k n m : ℕ) → from ≤ n → m ≡ n - from → ltb k m ≡ leb (from + k + 1) n
 ltb-leb from k n m within is = grind (arith, nat_tests)
@@ -51,10 +42,6 @@ words-from-word line from end within is =
 abbrev pub after : List Cell → Result (List Cell) WordFault → Result (List Cell) WordFault
 after done (Ok cells) = Ok (done ++ cells)
 after done (Err e) = Err e
-
-after_none : (r : Result (List Cell) WordFault) → after [] r ≡ r
-after_none (Ok cells) = refl
-after_none (Err e) = refl
 
 after-one-more : (done : List Cell) (cell : Cell) (r : Result (List Cell) WordFault) → after done (and_then r (λ more. Ok (cell ∷ more))) ≡ after (done ++ cell ∷ []) r
 after-one-more done cell (Ok cells) = ap Ok (sym (append_assoc done (cell ∷ []) cells))
@@ -84,10 +71,6 @@ whole_row place cells within long empty =
     sym (take-append-drop place cells)
     ∙ ap (λ rest. take place cells ++ rest) empty
     ∙ (λ i. sym (append-nil (take place cells)) i ++ replicate (11 - sym size i) Absent)
-
-pub miscounted : (kind : RowKind) (names : List (List ℕ)) (line : List ℕ) (m n : ℕ) → m ≡ length (words line) → n ≡ length (columns kind) → (m ≡ n → ⊥) → Err Misfit ≡ row_result (row_of kind names line)
-miscounted kind names line m n counted expected differ =
-    ap row_result (sym (cond-false _ _ _ (ne_eqb (length (words line)) (length (columns kind)) (λ e. differ (counted ∙ e ∙ sym expected)))))
 
 -- ---- a turn of the loop
 
@@ -122,13 +105,6 @@ pub record Read (cs : List Column) (names : List (List ℕ)) (ws : List (List �
   pub long : length cells ≡ 11
   pub empty : drop place cells ≡ replicate (11 - place) Absent
   pub so_far : after (take place cells) (cells_of (drop place cs) names before (drop place ws)) ≡ cells_of cs names 0 ws
-
-pub read_none : (cs : List Column) (names : List (List ℕ)) (ws : List (List ℕ)) → Read cs names ws 0 0 (replicate 11 Absent)
-read_none cs names ws = record {
-  long = refl;
-  empty = refl;
-  so_far = after_none (cells_of cs names 0 ws);
-}
 
 module _ (cs : List Column) (names : List (List ℕ)) (ws : List (List ℕ)) (place before : ℕ) (cells : List Cell) (so : Read cs names ws place before cells) where
   module _ (c : Column) (is : Some c ≡ slice_get cs place) (w : List ℕ) (here : (place < length ws) × (w ≡ get_or ws place w)) where

@@ -1,6 +1,9 @@
 ghost use Rattle.rows.specs.Pieces.{number_within, yes_or_no, event_named, limit_named, limit_from, limit_between, limit_of_parts, any_number, no_number, cell_from};
 ghost use Rattle.rows.specs.Rows.{cell_of};
+ghost use Rattle.rows.specs.declared.cell.WordFault.TheVariants.{Misfit};
+ghost use Rattle.texts.specs.Numbers.{number};
 ghost use Rattle.texts.specs.Tokens.{piece};
+ghost use Rattle.std.specs.Option.{ok_or};
 ghost use Rattle.std.specs.Str.{bytes_eq};
 ghost use Rattle.std.specs.Prelude.{◌≡◌};
 
@@ -10,10 +13,17 @@ use meaning::values::Bound;
 use texts::numbers::value;
 use texts::tokens::{Token, token_of};
 
+// The number that the word is.
+fn number_in_word(word: &[u8]) -> Result<u64, WordFault>
+    ensures { result ≡ ok_or (number word.now) Misfit }
+{
+    value(word).ok_or(WordFault::Misfit)
+}
+
 fn number_within(digits: &[u8], least: u64, most: u64) -> Result<Cell, WordFault>
     ensures { result ≡ number_within least most digits.now }
 {
-    let number = value(digits).ok_or(WordFault::Misfit)?;
+    let number = number_in_word(digits)?;
     if (least..=most).contains(&number) {
         Ok(Cell::Number(number))
     } else {
@@ -24,7 +34,7 @@ fn number_within(digits: &[u8], least: u64, most: u64) -> Result<Cell, WordFault
 fn any_number(digits: &[u8]) -> Result<Cell, WordFault>
     ensures { result ≡ any_number digits.now }
 {
-    value(digits).map(Cell::Number).ok_or(WordFault::Misfit)
+    number_in_word(digits).map(Cell::Number)
 }
 
 // Whether the word is the sought one.
@@ -63,24 +73,23 @@ fn limit_named(word: &[u8]) -> Result<Cell, WordFault>
     }
 }
 
-// Numbers above 250 are refused before they are cast, so that no cast loses anything.
 fn limit_from(least: u64) -> Result<Cell, WordFault>
     ensures { result ≡ limit_from least }
 {
-    if least <= 250 {
-        Ok(Cell::Bounded(Bound::AtLeast(least as u8)))
-    } else {
-        Err(WordFault::OutOfRange)
+    match u8::try_from(least) {
+        Ok(least @ ..=250) => Ok(Cell::Bounded(Bound::AtLeast(least))),
+        _ => Err(WordFault::OutOfRange),
     }
 }
 
 fn limit_between(least: u64, most: u64) -> Result<Cell, WordFault>
     ensures { result ≡ limit_between least most }
 {
-    if least <= most && most <= 250 {
-        Ok(Cell::Bounded(Bound::Between(least as u8, most as u8)))
-    } else {
-        Err(WordFault::OutOfRange)
+    match (u8::try_from(least), u8::try_from(most)) {
+        (Ok(least), Ok(most @ ..=250)) if least <= most => Ok(Cell::Bounded(Bound::Between(
+            least, most,
+        ))),
+        _ => Err(WordFault::OutOfRange),
     }
 }
 
@@ -88,12 +97,12 @@ fn limit_between(least: u64, most: u64) -> Result<Cell, WordFault>
 fn limit_of_parts(first: &[u8], second: &[u8]) -> Result<Cell, WordFault>
     ensures { result ≡ limit_of_parts first.now second.now }
 {
-    let least = value(first).ok_or(WordFault::Misfit)?;
+    let least = number_in_word(first)?;
     if second.is_empty() {
-        return limit_from(least);
+        limit_from(least)
+    } else {
+        limit_between(least, number_in_word(second)?)
     }
-    let most = value(second).ok_or(WordFault::Misfit)?;
-    limit_between(least, most)
 }
 
 fn event_named(events: &Events<'_>, word: &[u8]) -> Result<Cell, WordFault>
@@ -105,6 +114,7 @@ fn event_named(events: &Events<'_>, word: &[u8]) -> Result<Cell, WordFault>
         .ok_or(WordFault::Misfit)
 }
 
+// What a token gives in a column. An event is told by its word, in `read_cell`.
 fn cell_from(column: Column, before: u64, token: Token) -> Result<Cell, WordFault>
     ensures { result ≡ cell_from column before (piece token.entry) }
 {
