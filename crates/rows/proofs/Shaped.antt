@@ -1,14 +1,13 @@
 -- A word gives in a column what its token gives. Assumes nothing.
-use Rattle.std.proofs.Common.{◌≡◌, ℕ, Bool, true, false, cond, eqb, List, length, Some, None, Ok, Err, codes, Option, Result, sym, refl, ap, ◌∙◌, ⊎_elim}
-use Rattle.std.proofs.lemmas.Bool.{cases_Bool, cond-true, cond-false, or_cases, both_ways}
+use Rattle.std.proofs.Common.{◌≡◌, ℕ, Bool, true, false, cond, eqb, List, length, Some, None, Ok, Err, codes, Option, Result, refl, ap, ◌∙◌, ⊎_elim, arith}
+use Rattle.std.proofs.lemmas.Bool.{false_from_ne_true, cases_Bool, cond-true, cond-false, or_cases, both_ways}
 use Rattle.std.specs.Str.{bytes_eq}
-use Rattle.meaning.specs.declared.values.Bound.TheVariants.{Any, Never}
 use Rattle.texts.specs.Numbers.{numeral, number, read_on}
 use Rattle.texts.specs.Bounds.{bound_of, numeral_or_none}
 use Rattle.texts.specs.Tokens.{Piece, a_name, a_number, a_bound, an_other, name_word, bound_or, token_of}
 use Rattle.texts.proofs.Shapes.{bound-is, name-is-no-number, name-is-no-bound, number-is-no-bound}
 use Rattle.rows.specs.declared.cell.Cell.{Cell}
-use Rattle.rows.specs.declared.cell.Cell.TheVariants.{Number, Absent, Bounded}
+use Rattle.rows.specs.declared.cell.Cell.TheVariants.{Number}
 use Rattle.rows.specs.declared.cell.Column.{Column}
 use Rattle.rows.specs.declared.cell.Column.TheVariants.{Within, NotBelow, YesOrNo, EventName, Limit, NumberOrNone}
 use Rattle.rows.specs.declared.cell.WordFault.{WordFault}
@@ -18,34 +17,30 @@ use Rattle.rows.specs.Pieces.{limit_from, limit_between, limit_of_parts, cell_fr
 use Rattle.rows.proofs.Sought.{same_word}
 
 none_from : {X : Type 0} (o : Option X) → ((x : X) → o ≡ Some x → ⊥) → o ≡ None
-none_from None never = refl
-none_from (Some x) never = absurd (never x refl)
+none_from o never = grind arith
 
 -- ---- shapes
 
 -- a word that is no name is not this name
 no-such-name : (w v : List ℕ) → name_word w ≡ false → name_word v ≡ true → bytes_eq w v ≡ false
-no-such-name w v other is = ⊎_elim
-    (λ same. absurd (both_ways _ other (ap name_word (same_word w v same) ∙ is)))
-    (λ differs. differs)
-    (cases_Bool (bytes_eq w v))
+no-such-name w v other is = false_from_ne_true _ (λ same. both_ways _ other (ap name_word (same_word w v same) ∙ is))
 
 no-number-from : (w : List ℕ) → numeral w ≡ false → number w ≡ None
 no-number-from w h = cond-false _ _ _ h
 
 module _ (names : List (List ℕ)) (before : ℕ) (w : List ℕ) (other : name_word w ≡ false) where
   no_flag : Err Misfit ≡ cell_of YesOrNo names before w
-  no_flag = sym (cond-false _ _ _ (no-such-name w (codes "yes") other refl) ∙ cond-false _ _ _ (no-such-name w (codes "no") other refl))
+  no_flag = simp (no-such-name w (codes "yes") other refl, no-such-name w (codes "no") other refl)
 
   limit-by-parts : (o : Option (List ℕ × List ℕ)) → bound_of w ≡ o → bounded o ≡ cell_of Limit names before w
   limit-by-parts o is =
-      ap bounded (sym is) ∙ sym (cond-false _ _ _ (no-such-name w (codes "any") other refl) ∙ cond-false _ _ _ (no-such-name w (codes "none") other refl))
+      simp (is, no-such-name w (codes "any") other refl, no-such-name w (codes "none") other refl)
 
   claim-by-number : (o : Option ℕ) → number w ≡ o → numbered o (λ n. Ok (Number n)) ≡ cell_of NumberOrNone names before w
-  claim-by-number o is = ap (λ p. numbered p (λ n. Ok (Number n))) (sym is) ∙ sym (cond-false _ _ _ (no-such-name w (codes "none") other refl))
+  claim-by-number o is = simp (is, no-such-name w (codes "none") other refl)
 
 misfit : (f : ℕ → Result Cell WordFault) (w : List ℕ) → number w ≡ None → Err Misfit ≡ numbered (number w) f
-misfit f w none = sym (ap (λ o. numbered o f) none)
+misfit f w none = simp none
 
 by_name : (c : Column) (names : List (List ℕ)) (before : ℕ) (w : List ℕ) (line : ℕ) → (c ≡ EventName → ⊥) → number w ≡ None → bound_of w ≡ None
     → cell_from c before (a_name w line) ≡ cell_of c names before w
@@ -54,8 +49,8 @@ by_name (NotBelow most) names before w line no-event none unbound = misfit (rang
 by_name YesOrNo names before w line no-event none unbound = refl
 by_name EventName names before w line no-event none unbound = absurd (no-event refl)
 by_name Limit names before w line no-event none unbound =
-    sym (ap (λ o. cond (bytes_eq w (codes "any")) (Ok (Bounded Any)) (cond (bytes_eq w (codes "none")) (Ok (Bounded Never)) (bounded o))) unbound)
-by_name NumberOrNone names before w line no-event none unbound = sym (ap (λ o. cond (bytes_eq w (codes "none")) (Ok Absent) (numbered o (λ n. Ok (Number n)))) none)
+    simp unbound
+by_name NumberOrNone names before w line no-event none unbound = simp none
 
 module _ (names : List (List ℕ)) (before : ℕ) (w : List ℕ) (line : ℕ) (other : name_word w ≡ false) where
   by_number : (c : Column) → (c ≡ EventName → ⊥) → bound_of w ≡ None → cell_from c before (a_number w line) ≡ cell_of c names before w
@@ -104,7 +99,7 @@ pub cell-by-token : (c : Column) (names : List (List ℕ)) (before : ℕ) (w : L
     → cell_from c before p ≡ cell_of c names before w
 cell-by-token c names before w line p no-event is = ap (cell_from c before) is ∙ ⊎_elim
     (λ name. ap (cell_from c before) (cond-true _ _ _ name) ∙ by_name c names before w line no-event
-    (no-number-from w (⊎_elim (λ n. absurd (name-is-no-number w name n)) (λ no'. no') (cases_Bool (numeral w))))
+    (no-number-from w (false_from_ne_true _ (λ n. name-is-no-number w name n)))
     (none_from _ (λ parts e. name-is-no-bound w parts.0 parts.1 name e)))
     (λ other. ap (cell_from c before) (cond-false _ _ _ other) ∙ ⊎_elim
     (λ n. ap (cell_from c before) (cond-true _ _ _ n) ∙ by_number names before w line other c no-event (none_from _ (λ parts e. number-is-no-bound w parts.0 parts.1 n e)))

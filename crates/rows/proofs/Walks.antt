@@ -1,18 +1,16 @@
 -- The words of a line are read from the left, each in its column, by their places in the line. Assumes nothing.
-use Rattle.std.proofs.Common.{◌≡◌, ℕ, ◌+◌, ◌-◌, ◌<◌, ◌≤◌, cond, eqb, ltb, leb, List, [], ◌∷◌, ◌++◌, length, get_or, take, drop, set, replicate, Some, None, Ok, Err, Result, sym, refl, ap, ◌∙◌, ⊎_elim, zero-add, arith}
+use Rattle.std.proofs.Common.{◌≡◌, ℕ, ◌+◌, ◌-◌, ◌<◌, ◌≤◌, cond, eqb, ltb, leb, List, [], ◌∷◌, ◌++◌, length, get_or, take, drop, set, replicate, Some, Ok, Err, Result, sym, refl, ap, ◌∙◌, zero-add, arith}
 use Rattle.std.proofs.lemmas.List.{append-nil, append_assoc, length-set, length-drop, length-take-le, take-append-drop, take_more_set, drop-set-lt, drop-drop, drop_all, drop_more, drop-replicate}
 use Rattle.std.proofs.lemmas.List.FromFn.{length-enumerate_from, get_or-enumerate_from}
-use Rattle.std.proofs.lemmas.Option.{slice_get-get_or, slice_get_past}
-use Rattle.std.proofs.lemmas.Bool.{cases_lt, cond-true, le-leb}
+use Rattle.std.proofs.lemmas.Option.{slice_get_within, get_or_from_slice_get}
+use Rattle.std.proofs.lemmas.Bool.{cond-true, le-leb}
 use Rattle.std.proofs.lemmas.Bool.Decides.{nat_tests}
 use Rattle.std.specs.List.{slice_get, slice_split, onto_first, enumerate_from}
 use Rattle.texts.specs.Lines.{onto, words}
-use Rattle.texts.proofs.Lists.{never-some}
 use Rattle.texts.proofs.Pieces.{before, words_step}
 use Rattle.rows.specs.declared.cell.Cell.{Cell}
 use Rattle.rows.specs.declared.cell.Cell.TheVariants.{Absent}
 use Rattle.rows.specs.declared.cell.Column.{Column}
-use Rattle.rows.specs.declared.cell.Column.TheVariants.{YesOrNo}
 use Rattle.rows.specs.declared.cell.WordFault.{WordFault}
 use Rattle.rows.specs.Rows.{words_from, number_in, and_then, cell_of, cells_of, word_stop, padded, row_result}
 
@@ -46,23 +44,6 @@ after done (Err e) = Err e
 after-one-more : (done : List Cell) (cell : Cell) (r : Result (List Cell) WordFault) → after done (and_then r (λ more. Ok (cell ∷ more))) ≡ after (done ++ cell ∷ []) r
 after-one-more done cell (Ok cells) = ap Ok (sym (append_assoc done (cell ∷ []) cells))
 after-one-more done cell (Err e) = refl
-
-column-is-here : (cs : List Column) (place : ℕ) (c : Column) → Some c ≡ slice_get cs place → (place < length cs) × (drop place cs ≡ c ∷ drop (place + 1) cs)
-column-is-here cs place c is = ⊎_elim
-    (λ within.
-    let same : get_or cs place c ≡ c = (let e = slice_get-get_or cs place c within in cc) in
-    (within, drop_more cs place c within ∙ ap (λ x. x ∷ drop (place + 1) cs) same))
-    (λ past. never-some c (sym (is ∙ slice_get_past cs place past)))
-    (cases_lt place (length cs))
-
-pub place-within : (cs : List Column) (place : ℕ) (c : Column) → length cs ≤ 11 → Some c ≡ slice_get cs place → place < 11
-place-within cs place c few is = omega (arith, (column-is-here cs place c is).0)
-
-pub no-column-here : (cs : List Column) (place : ℕ) → None ≡ slice_get cs place → length cs ≤ place
-no-column-here cs place is = ⊎_elim
-    (λ within. never-some (get_or cs place YesOrNo) (is ∙ slice_get-get_or cs place YesOrNo within))
-    (λ past. past)
-    (cases_lt place (length cs))
 
 -- what was never written is absent
 whole_row : (place : ℕ) (cells : List Cell) → place ≤ 11 → length cells ≡ 11 → drop place cells ≡ replicate (11 - place) Absent → cells ≡ padded (take place cells ++ [])
@@ -109,7 +90,7 @@ pub record Read (cs : List Column) (names : List (List ℕ)) (ws : List (List �
 module _ (cs : List Column) (names : List (List ℕ)) (ws : List (List ℕ)) (place before : ℕ) (cells : List Cell) (so : Read cs names ws place before cells) where
   module _ (c : Column) (is : Some c ≡ slice_get cs place) (w : List ℕ) (here : (place < length ws) × (w ≡ get_or ws place w)) where
     first : drop place cs ≡ c ∷ drop (place + 1) cs
-    first = (column-is-here cs place c is).1
+    first = drop_more cs place c (slice_get_within cs place c (sym is)) ∙ ap (λ x. x ∷ drop (place + 1) cs) (get_or_from_slice_get cs place c c (sym is))
 
     next : drop place ws ≡ w ∷ drop (place + 1) ws
     next = drop_more ws place w here.0 ∙ ap (λ v. v ∷ drop (place + 1) ws) (sym here.1)

@@ -1,13 +1,16 @@
-use Rattle.std.proofs.Common.{rules, tests, ◌≡◌, ◌<◌, eqb, length, get_or, None, Some, Err, ap, ◌∙◌, arith}
+use Rattle.std.proofs.Common.{rules, tests, ◌≡◌, ◌<◌, eqb, length, get_or, None, Some, Err, sym, ap, ◌∙◌, arith}
 use Rattle.std.proofs.lemmas.Iterator.Consumers.{YieldsList-at, YieldsList-from_enumerate, YieldsList-turn, YieldsList-end}
 use Rattle.std.proofs.lemmas.Iterator.Splits.{YieldsList-from_slice_split}
 use Rattle.std.proofs.lemmas.List.{length_push}
+use Rattle.std.proofs.lemmas.Option.{slice_get-get_or, slice_get_within}
 use Rattle.std.proofs.lemmas.Result.{err_from_is_err_and}
 use Rattle.std.specs.List.{slice_get}
 use Rattle.texts.specs.Lines.{words}
+use Rattle.texts.proofs.Lists.{never-some}
+use Rattle.rows.specs.declared.cell.Column.TheVariants.{YesOrNo}
 use Rattle.rows.specs.Rows.{columns}
 use Rattle.rows.proofs.Columns.{columns-are-few}
-use Rattle.rows.proofs.Walks.{this_turn, all_turns, no-column-here, place-within, read-fails, read_more, read_all}
+use Rattle.rows.proofs.Walks.{this_turn, all_turns, read-fails, read_more, read_all}
 use Rattle.rows.proofs.line.read_words.Goals as goal
 use Rattle.rows.proofs.line.read_words.Goals.{In-Some, In_ok-column}
 
@@ -25,11 +28,14 @@ here c = this_turn c.args.line.now _ _ _ (YieldsList-turn
 found : (c : In_ok-column) → Some c.in_ok-column.column ≡ slice_get (columns c.args.kind) c.in-Some.place
 found c = grind arith
 
+below : (c : In_ok-column) → c.in-Some.place < 11
+below c = omega (arith, columns-are-few c.args.kind, slice_get_within (columns c.args.kind) c.in-Some.place c.in_ok-column.column (sym (found c)))
+
 pub returns-in_err-column : goal.returns-in_err-column
 returns-in_err-column c =
     let h = here (goal.at.returns-in_err-column c).In-Some in
     let none : None ≡ slice_get (columns c.args.kind) c.in-Some.place = grind arith in
-    absurd (omega (arith, h, c.requires, no-column-here (columns c.args.kind) c.in-Some.place none))
+    never-some _ (none ∙ slice_get-get_or (columns c.args.kind) c.in-Some.place YesOrNo (omega (arith, h, c.requires)))
 
 pub returns-in_err-cell : goal.returns-in_err-cell
 returns-in_err-cell c =
@@ -40,16 +46,16 @@ returns-in_err-cell c =
     ∙ read-fails _ _ _ _ _ _ c.loop-place.invariant _ (is ∙ ap (slice_get (columns c.args.kind)) h.0) _ (h.1, h.2) _ (c.in_err-cell.ensures)
 
 pub bounds-cells-place : goal.bounds-cells-place
-bounds-cells-place c = place-within _ _ _ (columns-are-few c.args.kind) (found (goal.at.bounds-cells-place c).In_ok-column)
+bounds-cells-place c = below (goal.at.bounds-cells-place c).In_ok-column
 
 pub offset_bounds-cells-place : goal.offset_bounds-cells-place
-offset_bounds-cells-place c = omega (arith, place-within _ _ _ (columns-are-few c.args.kind) (found (goal.at.offset_bounds-cells-place c).In_ok-column))
+offset_bounds-cells-place c = omega (arith, below (goal.at.offset_bounds-cells-place c).In_ok-column)
 
 pub loop-place-preserved : goal.loop-place-preserved
 loop-place-preserved c =
     let h = here (goal.at.loop-place-preserved c).In-Some in
     let is = found (goal.at.loop-place-preserved c).In_ok-column in
-    let within : length c.loop-place.yielded < 11 = omega (arith, h, place-within _ _ _ (columns-are-few c.args.kind) is) in
+    let within : length c.loop-place.yielded < 11 = omega (arith, h, below (goal.at.loop-place-preserved c).In_ok-column) in
     rw (length_push c.loop-place.yielded (c.in-Some.place, c.in-Some.word), h.0)
     (read_more _ _ _ _ _ _ c.loop-place.invariant _ (is ∙ ap (slice_get (columns c.args.kind)) h.0) _ (h.1, h.2) c.in_ok-cell.cell _ within c.in_ok-cell.ensures c.number_in-before.ensures)
 
