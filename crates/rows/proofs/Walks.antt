@@ -1,4 +1,4 @@
--- The words of a line are read from the left, each in its column, by their places in the line. Assumes nothing.
+-- The words of a line are read from the left, each in its column; and where in the line a word ends and the next begins. Assumes nothing.
 use Rattle.std.proofs.Common.{◌≡◌, ℕ, ◌+◌, ◌-◌, ◌<◌, ◌≤◌, cond, eqb, ltb, leb, List, [], ◌∷◌, ◌++◌, length, get_or, take, drop, set, replicate, Some, Ok, Err, Result, sym, refl, ap, ◌∙◌, zero-add, arith}
 use Rattle.std.proofs.lemmas.List.{append-nil, append_assoc, length-set, length-drop, length-take-le, take-append-drop, take_more_set, drop-set-lt, drop-drop, drop_all, drop_more, drop-replicate}
 use Rattle.std.proofs.lemmas.List.FromFn.{length-enumerate_from, get_or-enumerate_from}

@@ -5,6 +5,7 @@ use crate::cell::Cell;
 use meaning::values::Bound;
 
 // No public call has a `requires`, so each of these has an answer for every cell, and no caller has to show what its column already tells.
+// Each takes one case out of a cell, of a type of its own, which a plain `match` shows.
 
 // The number that a claim tells, if it tells one.
 pub fn claimed_in(cell: Cell) -> Option<u64>
