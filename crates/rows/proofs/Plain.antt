@@ -47,7 +47,7 @@ ink-is-allowed b h = ⊎_elim
 
 -- ---- lists
 
-pub every-weaker : {X : Type 0} (f g : X → Bool) → ((x : X) → f x ≡ true → g x ≡ true) → (xs : List X) → every f xs ≡ true → every g xs ≡ true
+every-weaker : {X : Type 0} (f g : X → Bool) → ((x : X) → f x ≡ true → g x ≡ true) → (xs : List X) → every f xs ≡ true → every g xs ≡ true
 every-weaker f g weaker [] h = refl
 every-weaker f g weaker (x ∷ xs) h =
     let both = and_parts (f x) _ h in
@@ -59,7 +59,7 @@ every_append f (x ∷ xs) ys h k =
     let both = and_parts (f x) _ h in
     and_from _ _ both.0 (every_append f xs ys both.1 k)
 
-pub every-at : {X : Type 0} (f : X → Bool) (xs : List X) (i : ℕ) (d : X) → every f xs ≡ true → i < length xs → f (get_or xs i d) ≡ true
+every-at : {X : Type 0} (f : X → Bool) (xs : List X) (i : ℕ) (d : X) → every f xs ≡ true → i < length xs → f (get_or xs i d) ≡ true
 every-at f [] i d h within = absurd (omega arith)
 every-at f (x ∷ xs) zero d h within = (and_parts (f x) _ h).0
 every-at f (x ∷ xs) (suc i) d h within = every-at f xs i d (and_parts (f x) _ h).1 (omega arith)

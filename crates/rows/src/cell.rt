@@ -48,6 +48,7 @@ pub enum WordFault {
 }
 
 // The cells of a row. No kind has more than eleven columns, and past the last the cells are absent.
+// Reading entries allocates nothing, so the cells stand in the row itself.
 #[derive(Clone, Copy, Drop)]
 pub struct Row {
     pub cells: [Cell; 11],

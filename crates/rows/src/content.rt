@@ -4,15 +4,23 @@ ghost use Rattle.std.specs.Prelude.{◌≡◌};
 use crate::cell::Cell;
 use meaning::values::Bound;
 
-// Each of these has an answer for every cell, so that no caller has to show what its column already tells.
+// No public call has a `requires`, so each of these has an answer for every cell, and no caller has to show what its column already tells.
+// Each takes one case out of a cell, of a type of its own, which a plain `match` shows.
+
+// The number that a claim tells, if it tells one.
+pub fn claimed_in(cell: Cell) -> Option<u64>
+    ensures { result ≡ claimed_in cell }
+{
+    match cell {
+        Cell::Number(number) => Some(number),
+        _ => None,
+    }
+}
 
 pub fn number_in(cell: Cell) -> u64
     ensures { result ≡ number_in cell }
 {
-    match cell {
-        Cell::Number(number) => number,
-        _ => 0,
-    }
+    claimed_in(cell).unwrap_or(0)
 }
 
 pub fn flag_in(cell: Cell) -> bool
@@ -39,15 +47,5 @@ pub fn bound_in(cell: Cell) -> Bound
     match cell {
         Cell::Bounded(bound) => bound,
         _ => Bound::Any,
-    }
-}
-
-// The number that a claim tells, if it tells one.
-pub fn claimed_in(cell: Cell) -> Option<u64>
-    ensures { result ≡ claimed_in cell }
-{
-    match cell {
-        Cell::Number(number) => Some(number),
-        _ => None,
     }
 }

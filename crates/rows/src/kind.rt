@@ -1,68 +1,64 @@
 ghost use Rattle.rows.specs.Rows.{columns};
-ghost use Rattle.rows.specs.declared.cell.RowKind.TheVariants.{Tick, Place, Edge, Distance, Claim};
+ghost use Rattle.rows.specs.declared.cell.Column.TheVariants.{Within, EventName};
+ghost use Rattle.rows.specs.declared.cell.RowKind.TheVariants.{Place};
 ghost use Rattle.std.specs.List.{slice_get};
-ghost use Rattle.std.specs.Prelude.{◌≡◌, min, length, replicate};
+ghost use Rattle.std.specs.Prelude.{◌≡◌, [], ◌∷◌, ◌++◌, min, length, replicate};
 
 use crate::cell::{Column, RowKind};
+use std::iter;
 
-// One column for each event, of which there are at most eight.
-fn event_column(each: Column, events: u8, place: usize) -> Option<Column>
-    ensures { result ≡ slice_get (replicate (min events 8) each) place }
+const TICK: [Column; 1] = [Column::Within(1, 60_000)];
+
+const DISTANCE: [Column; 4] = [
+    Column::EventName,
+    Column::EventName,
+    Column::Within(0, 250),
+    Column::NotBelow(250),
+];
+
+// Those before the columns of the events.
+const CLAIM: [Column; 2] = [
+    Column::Within(0, 9_999_999_999),
+    Column::Within(0, 9_999_999_999),
+];
+
+fn place_columns(number: u64) -> [Column; 3]
+    ensures { result ≡ columns (Place number) }
 {
-    if place < usize::from(events.min(8)) {
-        Some(each)
-    } else {
-        None
-    }
+    [
+        Column::Within(number, number),
+        Column::YesOrNo,
+        Column::YesOrNo,
+    ]
 }
 
-fn tick_column(place: usize) -> Option<Column>
-    ensures { result ≡ slice_get (columns Tick) place }
+// Those before the columns of the events.
+fn edge_columns(most: u64) -> [Column; 3]
+    ensures { result ≡ Within 0 most ∷ Within 0 most ∷ EventName ∷ [] }
 {
-    match place {
-        0 => Some(Column::Within(1, 60_000)),
-        _ => None,
-    }
+    [
+        Column::Within(0, most),
+        Column::Within(0, most),
+        Column::EventName,
+    ]
 }
 
-fn place_column(number: u64, place: usize) -> Option<Column>
-    ensures { result ≡ slice_get (columns (Place number)) place }
+// How many of the events have a column: at most eight.
+fn event_columns(events: u8) -> usize
+    ensures { result ≡ min events 8 }
 {
-    match place {
-        0 => Some(Column::Within(number, number)),
-        1 | 2 => Some(Column::YesOrNo),
-        _ => None,
-    }
+    usize::from(events.min(8))
 }
 
-fn edge_column(most: u64, events: u8, place: usize) -> Option<Column>
-    ensures { result ≡ slice_get (columns (Edge most events)) place }
+// The column at the place where these stand first, and after them one for each event.
+fn with_events(first: &[Column], each: Column, events: u8, place: usize) -> Option<Column>
+    ensures { result ≡ slice_get (first.now ++ replicate (min events 8) each) place }
 {
-    match place {
-        0 | 1 => Some(Column::Within(0, most)),
-        2 => Some(Column::EventName),
-        _ => event_column(Column::Limit, events, place - 3),
-    }
-}
-
-fn distance_column(place: usize) -> Option<Column>
-    ensures { result ≡ slice_get (columns Distance) place }
-{
-    match place {
-        0 | 1 => Some(Column::EventName),
-        2 => Some(Column::Within(0, 250)),
-        3 => Some(Column::NotBelow(250)),
-        _ => None,
-    }
-}
-
-fn claim_column(events: u8, place: usize) -> Option<Column>
-    ensures { result ≡ slice_get (columns (Claim events)) place }
-{
-    match place {
-        0 | 1 => Some(Column::Within(0, 9_999_999_999)),
-        _ => event_column(Column::NumberOrNone, events, place - 2),
-    }
+    first
+        .iter()
+        .copied()
+        .chain(iter::repeat_n(each, event_columns(events)))
+        .nth(place)
 }
 
 // The column at the place, from 0; none past the last.
@@ -70,11 +66,16 @@ pub fn column(kind: RowKind, place: usize) -> Option<Column>
     ensures { result ≡ slice_get (columns kind) place }
 {
     match kind {
-        RowKind::Tick => tick_column(place),
-        RowKind::Place(number) => place_column(number, place),
-        RowKind::Edge(most, events) => edge_column(most, events, place),
-        RowKind::Distance => distance_column(place),
-        RowKind::Claim(events) => claim_column(events, place),
+        RowKind::Tick => TICK.get(place).copied(),
+        RowKind::Place(number) => place_columns(number).get(place).copied(),
+        RowKind::Edge(most, events) => with_events(
+            &edge_columns(most),
+            Column::Limit,
+            events,
+            place,
+        ),
+        RowKind::Distance => DISTANCE.get(place).copied(),
+        RowKind::Claim(events) => with_events(&CLAIM, Column::NumberOrNone, events, place),
     }
 }
 
@@ -82,10 +83,10 @@ pub fn column_count(kind: RowKind) -> usize
     ensures { result ≡ length (columns kind) }
 {
     match kind {
-        RowKind::Tick => 1,
-        RowKind::Place(_) => 3,
-        RowKind::Edge(_, events) => 3 + usize::from(events.min(8)),
-        RowKind::Distance => 4,
-        RowKind::Claim(events) => 2 + usize::from(events.min(8)),
+        RowKind::Tick => TICK.len(),
+        RowKind::Place(number) => place_columns(number).len(),
+        RowKind::Edge(most, events) => edge_columns(most).len() + event_columns(events),
+        RowKind::Distance => DISTANCE.len(),
+        RowKind::Claim(events) => CLAIM.len() + event_columns(events),
     }
 }

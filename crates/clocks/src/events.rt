@@ -1,0 +1,49 @@
+ghost use Rattle.clocks.specs.Search.{first_of};
+ghost use Rattle.clocks.specs.Texts.{text};
+ghost use Rattle.std.specs.Prelude.{◌≡◌, ◌≤◌, ℕ, List, map, length, take, bytes_eq};
+
+use crate::name::Name;
+use crate::search::position;
+use std::marker::Model;
+
+// The names of a table's events, in the order of their numbers: at most eight. A contract sees their letters.
+#[derive(Drop)]
+pub struct Events<'a> {
+    names: &'a [Name],
+}
+
+impl<'a> Model for Events<'a> {
+    ghost Value = { List (List ℕ) };
+
+    ghost view = { λ e. map text e.names.now };
+
+    ghost invariant = { λ e. length e.names.now ≤ 8 };
+}
+
+impl<'a> Events<'a> {
+    // The first eight of the names. A table has no more of them, so that the number of an event is small.
+    pub fn first_eight(names: &'a [Name]) -> Events<'a>
+        ensures { result ≡ take 8 (map text names.now) }
+    {
+        Events {
+            names: &names[..names.len().min(8)],
+        }
+    }
+
+    // How many events there are.
+    pub fn count(&self) -> u8
+        ensures { result ≡ length self.now }
+    {
+        self.names.len() as u8
+    }
+
+    // The number of the event with this name; none where there is no such event.
+    pub fn number_of(&self, word: &[u8]) -> Option<u8>
+        ensures { result ≡ first_of (λ name. bytes_eq name word.now) self.now }
+    {
+        let names = self.names;
+        let name = Name::new(word)?;
+        let event = position(names, &name)?;
+        Some(event as u8)
+    }
+}
