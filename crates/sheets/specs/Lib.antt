@@ -1,3 +1,4 @@
 pub mod Reader
 pub mod Distances
 pub mod DistanceReading
+pub mod Reading
