@@ -3,3 +3,4 @@ pub mod EntriesWalk
 pub mod EntriesOf
 pub mod Ticks
 pub mod Made
+pub mod Counted
