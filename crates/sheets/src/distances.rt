@@ -44,14 +44,7 @@ pub fn read_distances(
     ensures value { ListTaken result (contents table.now).names text.now list.new }
     ensures one { DistancesOrFault (contents table.now).names text.now }
 {
-    match list_in(heap, text, table) {
-        Ok(read) => {
-            *list = read;
-            Ok(())
-        }
-        Err(fault) => {
-            *list = DistanceList::blank(heap);
-            Err(fault)
-        }
-    }
+    *list = DistanceList::blank(heap);
+    *list = list_in(heap, text, table)?;
+    Ok(())
 }

@@ -30,14 +30,7 @@ pub fn read_table(heap: Global, text: &[u8], table: &mut Table) -> Result<(), Sh
     ensures value { TableTaken result text.now (contents table.new) }
     ensures one { TableOrFault text.now }
 {
-    match table_in(heap, text) {
-        Ok(read) => {
-            *table = read;
-            Ok(())
-        }
-        Err(fault) => {
-            *table = Table::blank(heap);
-            Err(fault)
-        }
-    }
+    *table = Table::blank(heap);
+    *table = table_in(heap, text)?;
+    Ok(())
 }
