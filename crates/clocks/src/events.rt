@@ -30,6 +30,13 @@ impl<'a> Events<'a> {
         }
     }
 
+    // The names, in the order of the events' numbers.
+    pub fn names(&self) -> &[Name]
+        ensures { map text result.now ≡ self.now }
+    {
+        &self.names[..]
+    }
+
     // How many events there are.
     pub fn count(&self) -> u8
         ensures { result ≡ length self.now }

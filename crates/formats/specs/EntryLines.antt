@@ -1,6 +1,5 @@
 -- What one line of an entries text gives where it stands, and how answers about a line and about the text say what is defined.
 use Rattle.std.specs.Prelude.{◌≡◌, ℕ, cond, List, ◌++◌, map, length, take, drop, Some, None, Ok, Err, Option, Result, nat_le, slice_index_or}
-use Rattle.std.specs.Option.{option_map}
 use Rattle.rows.specs.Rows.{row_of, number_in, claimed_in}
 use Rattle.rows.specs.declared.cell.Cell.{Cell}
 use Rattle.rows.specs.declared.cell.Cell.TheVariants.{Absent}
@@ -10,7 +9,7 @@ use Rattle.formats.specs.declared.claim.EntryStage.{EntryStage}
 use Rattle.formats.specs.declared.claim.EntryStage.TheVariants.{Head, Rows}
 use Rattle.formats.specs.declared.fault.LineFault.{LineFault}
 use Rattle.formats.specs.declared.fault.SheetFault.{SheetFault}
-use Rattle.formats.specs.Faults.{line_number, refusal}
+use Rattle.formats.specs.Faults.{FailsAs, line_number, refusal}
 use Rattle.formats.specs.TableText.{head_is}
 use Rattle.formats.specs.EntriesText.{EntryParts, entry_head, claim_from, entries_read, with_claim}
 use Rattle.clocks.specs.Texts.{text}
@@ -20,7 +19,7 @@ use Rattle.formats.specs.Walk.{Refusal, Line, misspaced, head_step, row_gives}
 -- An answer about a line says what is defined; want of memory says nothing, so it is no answer.
 abbrev pub Says : {X : Type 0} → Result X LineFault → Result X ℕ → Type 0
 Says (Ok x) d = d ≡ Ok x
-Says (Err e) d = Some d ≡ option_map Err (line_number e)
+Says (Err e) d = FailsAs d (line_number e)
 
 -- the claim in the eleven cells of a row
 abbrev pub claim_in : List Cell → Claim
@@ -54,9 +53,9 @@ event_names names = take 8 (map text names)
 -- The number of claims, or the refusal.
 abbrev pub Counts : Result ℕ SheetFault → Result EntryParts Refusal → Type 0
 Counts (Ok n) d = (s : EntryParts) × (d ≡ Ok s) × (length s.claims ≡ n)
-Counts (Err e) d = Some d ≡ option_map Err (refusal e)
+Counts (Err e) d = FailsAs d (refusal e)
 
 -- Where a text is taken, its claims come first in the list, and what stands after them stays; a refused text leaves the list.
 abbrev pub Fills : Result ℕ SheetFault → Result EntryParts Refusal → List Claim → List Claim → Type 0
 Fills (Ok n) d before after = (s : EntryParts) × (d ≡ Ok s) × (length s.claims ≡ n) × (after ≡ s.claims ++ drop n before)
-Fills (Err e) d before after = (Some d ≡ option_map Err (refusal e)) × (after ≡ before)
+Fills (Err e) d before after = FailsAs d (refusal e) × (after ≡ before)

@@ -1,5 +1,6 @@
 -- The number and the line of every fault, and how an answer agrees with what is defined.
 use Rattle.std.specs.Prelude.{◌≡◌, ℕ, Some, None, Ok, Err, Option, Result}
+use Rattle.std.specs.Option.{option_map}
 use Rattle.texts.specs.Faults.{text_number, text_line}
 use Rattle.rows.specs.declared.cell.WordFault.{WordFault}
 use Rattle.rows.specs.declared.cell.WordFault.TheVariants.{Misfit, OutOfRange}
@@ -56,12 +57,19 @@ abbrev pub Fails : {S E : Type 0} → Result S E → Option E → Type 0
 Fails d None = Unit {0}
 Fails d (Some e) = d ≡ Err e
 
--- An answer about a line agrees with what is defined, or memory was wanting.
+-- An answer agrees with what is defined, or its fault, of which this is told, tells nothing: memory was wanting.
+abbrev pub AgreesBy : {X S F E : Type 0} → (F → Option E) → (X → S) → Result X F → Result S E → Type 0
+AgreesBy told f (Ok x) d = d ≡ Ok (f x)
+AgreesBy told f (Err e) d = Fails d (told e)
+
+-- An answer about a line agrees so.
 abbrev pub Agrees : {X S : Type 0} → (X → S) → Result X LineFault → Result S ℕ → Type 0
-Agrees f (Ok x) d = d ≡ Ok (f x)
-Agrees f (Err e) d = Fails d (line_number e)
+Agrees f r d = AgreesBy line_number f r d
 
 -- The same of an answer about a text.
 abbrev pub AgreesOnText : {X S : Type 0} → (X → S) → Result X SheetFault → Result S Refusal → Type 0
-AgreesOnText f (Ok x) d = d ≡ Ok (f x)
-AgreesOnText f (Err e) d = Fails d (refusal e)
+AgreesOnText f r d = AgreesBy refusal f r d
+
+-- what is defined fails with this; where nothing is told, it is no answer
+abbrev pub FailsAs : {S E : Type 0} → Result S E → Option E → Type 0
+FailsAs d told = Some d ≡ option_map Err told

@@ -5,14 +5,14 @@ ghost use Rattle.std.specs.Prelude.{◌≡◌};
 use texts::fault::TextFault;
 
 // The number of a refusal, and the line that it names; line 0 is none.
-#[derive(Clone, Copy, Drop, PartialEq, Debug)]
+#[derive(Clone, Copy, Drop, PartialEq, Eq, Debug)]
 pub struct Refusal {
     pub number: u8,
     pub line: u32,
 }
 
 // Why a text of sheets is not taken. The first case holds the fault of the text itself; want of memory says nothing of the text.
-#[derive(Clone, Copy, Drop)]
+#[derive(Clone, Copy, Drop, PartialEq, Debug)]
 pub enum SheetFault {
     Text(TextFault),
     // A wrong head, a bad event name, or a sheet lacks.
@@ -27,7 +27,7 @@ pub enum SheetFault {
 }
 
 // What is wrong with a line where it stands.
-#[derive(Clone, Copy, Drop)]
+#[derive(Clone, Copy, Drop, PartialEq, Eq, Debug)]
 pub enum LineFault {
     Spacing,
     Head,

@@ -1,6 +1,6 @@
 #![tactic(auto)]
 
-// Faults of one layer as faults of the next.
+// What one layer found, as the next one tells it.
 pub mod convert;
 // What a line of an entries text says.
 pub mod claim;

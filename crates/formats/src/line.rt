@@ -14,3 +14,10 @@ pub struct SheetLimits {
     pub most: usize,
     pub more: usize,
 }
+
+// A sheet among whose rows a line stands: what it may have, and how many rows it has so far.
+#[derive(Clone, Copy, Drop)]
+pub struct SheetRows {
+    pub limits: SheetLimits,
+    pub count: usize,
+}

@@ -1,30 +1,18 @@
 -- The head of the edges as the code judges it. Assumes nothing.
-use Rattle.std.proofs.Common.{◌≡◌, ℕ, ◌<◌, ◌≤◌, Bool, true, false, cond, ◌&&◌, eqb, leb, List, length, drop, Some, None, Ok, Err, Option, Result, refl, ap, ◌∙◌, arith}
+use Rattle.std.proofs.Common.{◌≡◌, ℕ, ◌<◌, ◌≤◌, Bool, true, false, cond, ◌&&◌, eqb, leb, List, length, Some, None, Ok, Err, Option, Result, refl, ap, ◌∙◌, arith}
 use Rattle.std.proofs.lemmas.Bool.{and_left, and_right, and_from, lt-leb, le-leb}
-use Rattle.texts.specs.Lines.{words}
 use Rattle.texts.specs.Numbers.{every}
 use Rattle.clocks.specs.Letters.{lawful_name}
 use Rattle.tables.specs.Lawful.{different}
-use Rattle.rows.specs.Rows.{words_from}
 use Rattle.rows.proofs.Outcomes.{never-ok, same-from-ok}
 use Rattle.formats.specs.Faults.{Fails}
-use Rattle.judges.specs.Heads.{NamesAfter, name_list, judged_names}
-use Rattle.formats.specs.TableText.{edge_head_wrong}
+use Rattle.judges.specs.Heads.{name_list, judged_names}
 use Rattle.formats.specs.Walk.{Line, misspaced, head_step}
 use Rattle.formats.proofs.Written.{last-sheet}
 
 -- a head that is judged by what is wrong with it
 pub head-judged : {S : Type 0} (wrong : ℕ) (l : Line) (next : S) → misspaced l ≡ false → head_step 0 wrong l next ≡ cond (eqb wrong 0) (Ok next) (Err wrong)
 head-judged wrong l next fine = λ i. cond (fine i) (Err 3) (cond (last-sheet l i) (Err 4) (cond (eqb wrong 0) (Ok next) (Err wrong)))
-
-module _ (l : Line) (fine : misspaced l ≡ false) where
-  pub no-names-place : NamesAfter l.bytes None → head_step 0 (edge_head_wrong (words l.bytes)) l (drop 3 (words l.bytes)) ≡ Err 4
-  no-names-place h = head-judged (edge_head_wrong (words l.bytes)) l (drop 3 (words l.bytes)) fine ∙ ap (λ n. cond (eqb n 0) (Ok (drop 3 (words l.bytes))) (Err n)) h
-
-  pub names-judged : (from : ℕ) → NamesAfter l.bytes (Some from) → head_step 0 (edge_head_wrong (words l.bytes)) l (drop 3 (words l.bytes)) ≡ judged_names (words_from l.bytes from)
-  names-judged from h =
-      head-judged (edge_head_wrong (words l.bytes)) l (drop 3 (words l.bytes)) fine
-      ∙ (λ i. cond (eqb (h.0 i) 0) (Ok (h.1 i)) (Err (h.0 i)))
 
 -- names that are refused, are too few or too many, or are taken
 list_of : (ws names : List (List ℕ)) → name_list ws ≡ Ok names → ((every lawful_name ws && different ws) ≡ true) × (ws ≡ names)

@@ -1,13 +1,16 @@
 -- The claim of a row, and what a line of an entries text does to what has been read. Assumes nothing.
-use Rattle.std.proofs.Common.{◌≡◌, ℕ, zero, suc, ◌+◌, ◌-◌, ◌<◌, ◌≤◌, false, cond, ◌&&◌, eqb, leb, List, [], ◌∷◌, ◌++◌, map, length, get_or, take, drop, replicate, Some, None, Ok, Err, Option, Result, sym, refl, ap, ◌∙◌, arith}
-use Rattle.std.proofs.lemmas.List.{length-map, length-append, length-replicate, get_or_default}
-use Rattle.std.proofs.lemmas.Bool.{and_parts, eqb-true, lt-leb}
-use Rattle.rows.specs.Rows.{row_of, row_result, padded, number_in, claimed_in}
+use Rattle.std.proofs.Common.{◌≡◌, ℕ, zero, suc, ◌+◌, ◌-◌, ◌<◌, ◌≤◌, min, false, cond, ◌&&◌, eqb, leb, List, [], ◌∷◌, ◌++◌, map, length, take, drop, replicate, Some, None, Ok, Err, Option, Result, sym, refl, ap, ◌∙◌, ⊎_elim, arith}
+use Rattle.std.proofs.lemmas.List.{length-map, length-append, length-replicate}
+use Rattle.std.proofs.lemmas.Bool.{and_parts, cases_lt, eqb-true, lt-leb}
+use Rattle.rows.specs.Rows.{row_of, row_result, cells_of, padded, claimed_in}
 use Rattle.rows.specs.declared.cell.Cell.{Cell}
-use Rattle.rows.specs.declared.cell.Cell.TheVariants.{Absent, Number}
+use Rattle.rows.specs.declared.cell.Cell.TheVariants.{Absent}
+use Rattle.rows.specs.declared.cell.Column.TheVariants.{Within, NumberOrNone}
 use Rattle.rows.specs.declared.cell.Row.{Row}
 use Rattle.rows.specs.declared.cell.RowKind.TheVariants.{Claim as Claim'}
 use Rattle.rows.specs.declared.cell.WordFault.{WordFault}
+use Rattle.rows.specs.declared.cell.WordFault.TheVariants.{Misfit}
+use Rattle.texts.specs.Lines.{words}
 use Rattle.std.specs.Option.{option_map}
 use Rattle.rows.proofs.Rows.{row-is-written}
 use Rattle.formats.specs.declared.claim.Claim.{Claim}
@@ -20,14 +23,7 @@ use Rattle.formats.proofs.Steps.{row-refused}
 
 -- ---- the claim of a row
 
-pub claimed-all : (cells : List Cell) (told : List (Option ℕ)) (p s : ℕ) → length cells ≡ 11 → told ≡ take 8 (map claimed_in (drop 2 cells))
-    → p ≡ number_in (get_or cells 0 (Number 0)) → s ≡ number_in (get_or cells 1 (Number 0)) → record { place = p; state = s; cells = told } ≡ claim_in cells
-claimed-all cells told p s size rest place state =
-    let first = place ∙ ap number_in (get_or_default cells 0 (Number 0) Absent (omega arith)) in
-    let second = state ∙ ap number_in (get_or_default cells 1 (Number 0) Absent (omega arith)) in
-    λ j. record { place = first j; state = second j; cells = rest j }
-
-absent_none : (m : ℕ) → map claimed_in (replicate m Absent) ≡ replicate m None
+pub absent_none : (m : ℕ) → map claimed_in (replicate m Absent) ≡ replicate m None
 absent_none zero = refl
 absent_none (suc m) = ap (λ os. None ∷ os) (absent_none m)
 
@@ -63,8 +59,8 @@ drop-two [] h = absurd (omega arith)
 drop-two (a ∷ []) h = absurd (omega arith)
 drop-two (a ∷ b ∷ rest) h = omega arith
 
-claim-of-row : (n : ℕ) (names : List (List ℕ)) (line : List ℕ) (cells : List Cell) → n ≤ 8 → row_of (Claim' n) names line ≡ Ok cells → claim_in (padded cells) ≡ claim_from n cells
-claim-of-row n names line cells few h =
+few-claim-of-row : (n : ℕ) (names : List (List ℕ)) (line : List ℕ) (cells : List Cell) → n ≤ 8 → row_of (Claim' n) names line ≡ Ok cells → claim_in (padded cells) ≡ claim_from n cells
+few-claim-of-row n names line cells few h =
     let both = claim-row n names cells few (row-is-written (Claim' n) names line cells h).1 in
     let c = claim_from n cells in
     let sized = and_parts (eqb (length c.cells) 8) _ (and_parts (leb c.place 9999999999 && leb c.state 9999999999) _ both.1).1 in
@@ -73,9 +69,27 @@ claim-of-row n names line cells few h =
     claim-padded n cells few
     (omega (arith, two, eight, length-append (map claimed_in (drop 2 cells)) (replicate (8 - n) None), length-map (drop 2 cells) claimed_in, length-replicate {A = Option ℕ} (8 - n) None))
 
+-- past eight events a claim's row is that of eight
+abbrev row-with : List (List ℕ) → List ℕ → ℕ → Result (List Cell) WordFault
+row-with names line m =
+    let cols = Within 0 9999999999 ∷ Within 0 9999999999 ∷ replicate m NumberOrNone in
+    cond (eqb (length (words line)) (length cols)) (cells_of cols names 0 (words line)) (Err Misfit)
+
+many-claim-row : (n : ℕ) (names : List (List ℕ)) (line : List ℕ) → 8 ≤ n → row_of (Claim' n) names line ≡ row_of (Claim' 8) names line
+many-claim-row n names line many = let e : min n 8 ≡ 8 = omega arith in ap (row-with names line) e
+
+claim-of-row : (n : ℕ) (names : List (List ℕ)) (line : List ℕ) (cells : List Cell) → row_of (Claim' n) names line ≡ Ok cells → claim_in (padded cells) ≡ claim_from n cells
+claim-of-row n names line cells h = ⊎_elim
+    (λ few. few-claim-of-row n names line cells (omega arith) h)
+    (λ many.
+    let none : 0 ≡ 8 - n = omega arith in
+    few-claim-of-row 8 names line cells (omega arith) (sym (many-claim-row n names line many) ∙ h)
+    ∙ ap (λ m. record { place = (claim_from n cells).place; state = (claim_from n cells).state; cells = map claimed_in (drop 2 cells) ++ replicate m None }) none)
+    (cases_lt n 8)
+
 -- ---- a line among the rows
 
-module _ (names : List (List ℕ)) (few : length names ≤ 8) (room count : ℕ) (l : Line) (fine : misspaced l ≡ false) (rest : count < room) where
+module _ (names : List (List ℕ)) (room count : ℕ) (l : Line) (fine : misspaced l ≡ false) (rest : count < room) where
   row-comes : entry_row names room count l ≡ row_gives (row_of (Claim' (length names)) names l.bytes) (claim_from (length names))
   row-comes =
       let some : leb room count ≡ false = lt-leb room count rest in
@@ -87,7 +101,7 @@ module _ (names : List (List ℕ)) (few : length names ≤ 8) (room count : ℕ)
       go : (r : Result (List Cell) WordFault) → row_of (Claim' (length names)) names l.bytes ≡ r → Ok row ≡ row_result r → row_gives r (claim_from (length names)) ≡ Ok (claim_in row.cells)
       go (Ok cells) e g =
           let same : row ≡ record { cells = padded cells } = cc in
-          ap Ok (sym (claim-of-row (length names) names l.bytes cells few e) ∙ ap (λ x. claim_in x.cells) (sym same))
+          ap Ok (sym (claim-of-row (length names) names l.bytes cells e) ∙ ap (λ x. claim_in x.cells) (sym same))
       go (Err f) e g = absurd (let z : ◌≡◌ {A = ℕ} 0 1 = cc in omega arith)
 
   pub row-fails : (n : ℕ) → n ≡ length names → (f : WordFault) → Err f ≡ row_result (row_of (Claim' n) names l.bytes) → Some (entry_row names room count l) ≡ option_map Err (line_number (row_fault f))

@@ -1,6 +1,6 @@
-pub mod WordsAlong
 pub mod NameLists
 pub mod EdgeHeads
 pub mod EntryHeads
 pub mod EntryRows
 pub mod InTurn
+pub mod HeadWords

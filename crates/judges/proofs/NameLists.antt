@@ -1,14 +1,13 @@
 -- A list of names that grows by one name at a time. Assumes nothing.
-use Rattle.std.proofs.Common.{◌≡◌, ℕ, suc, ◌+◌, ◌-◌, ◌<◌, ◌≤◌, Bool, true, false, cond, not, ◌&&◌, List, [], ◌∷◌, ◌++◌, map, length, take, drop, is_some, Some, None, Ok, Err, Option, sym, refl, ap, ◌∙◌, subst, ⊎_elim, append_assoc, append-nil}
+use Rattle.std.proofs.Common.{◌≡◌, ℕ, suc, Bool, true, false, cond, not, ◌&&◌, List, [], ◌∷◌, ◌++◌, map, is_some, Some, None, Ok, Err, Option, Bor, sym, refl, ap, ◌∙◌, subst, ⊎_elim, append_assoc, append-nil}
 use Rattle.std.proofs.lemmas.Slice.Eq.{bytes_eq-Decides}
 use Rattle.std.proofs.lemmas.List.{map_push}
-use Rattle.std.proofs.lemmas.Bool.{and_parts, and_from, and_left, and_right, cases_Bool, cond-true, cond-false, not-true, not_from_true, not_from_false, lt-leb, not-false, true≢false, false≢true, both_ways}
+use Rattle.std.proofs.lemmas.Bool.{and_parts, and_from, and_left, and_right, cases_Bool, cond-true, cond-false, not-true, not_from_true, not_from_false, not-false, true≢false, false≢true, both_ways}
+use Rattle.std.specs.Bool.{then_some}
 use Rattle.std.specs.Option.{option_map}
+use Rattle.std.proofs.lemmas.Iterator.{YieldsList}
 use Rattle.std.specs.Str.{bytes_eq}
-use Rattle.texts.specs.Lines.{words}
 use Rattle.texts.specs.Numbers.{every}
-use Rattle.rows.specs.Rows.{words_from, word_stop}
-use Rattle.rows.proofs.Walks.{words-from-word}
 use Rattle.texts.proofs.Lists.{some-under, never-some}
 use Rattle.clocks.specs.declared.name.Name.{Name}
 use Rattle.clocks.specs.Texts.{text}
@@ -118,20 +117,33 @@ names-done front all so =
 
 -- ---- as the code makes a name
 
-module _ (word : List ℕ) (names : List Name) (t : List ℕ) (r : Option ℕ) (made : Some t ≡ cond (lawful_name word) (Some word) None) (found : r ≡ first_of (λ y. bytes_eq (text y) t) names) where
-  is_lawful : (lawful_name word ≡ true) × (word ≡ t)
-  is_lawful = some-under (lawful_name word) word t (sym made)
+if_so : {X : Type 0} (b : Bool) (x : X) → then_some b x ≡ cond b (Some x) None
+if_so true x = refl
+if_so false x = refl
+
+text-if_so : (b : Bool) (name : Name) → option_map text (then_some b name) ≡ then_some b (text name)
+text-if_so true name = refl
+text-if_so false name = refl
+
+twice-not : (b : Bool) → not (not b) ≡ b
+twice-not true = refl
+twice-not false = refl
+
+module _ (word : List ℕ) (names : List Name) (name : Name) (r : Option ℕ) (made : Some (text name) ≡ cond (lawful_name word) (Some word) None)
+    (found : r ≡ first_of (λ y. bytes_eq (text y) (text name)) names) where
+  is_lawful : (lawful_name word ≡ true) × (word ≡ text name)
+  is_lawful = some-under (lawful_name word) word (text name) (sym made)
 
   stands-is : is_some r ≡ stands word (map text names)
   stands-is =
-      ap is_some (found ∙ sym (first_of-map (λ y. bytes_eq y t) text names)) ∙ ap (λ w. stands w (map text names)) (sym is_lawful.1)
+      ap is_some (found ∙ sym (first_of-map (λ y. bytes_eq y (text name)) text names)) ∙ ap (λ w. stands w (map text names)) (sym is_lawful.1)
 
-  pub name-stands : true ≡ is_some r → None ≡ cond (lawful_name word && not (stands word (map text names))) (Some word) None
-  name-stands h = sym (cond-false _ (Some word) None (and_right (lawful_name word) _ (not_from_true _ (sym stands-is ∙ sym h))))
-
-  pub name-is-new : false ≡ is_some r → Some t ≡ cond (lawful_name word && not (stands word (map text names))) (Some word) None
-  name-is-new h =
-      ap Some (sym is_lawful.1) ∙ sym (cond-true _ (Some word) None (and_from _ _ is_lawful.0 (not_from_false _ (sym stands-is ∙ sym h))))
+  pub name-if-new : (new : Bool) → is_some r ≡ not new → option_map text (then_some new name) ≡ cond (lawful_name word && not (stands word (map text names))) (Some word) None
+  name-if-new new h =
+      text-if_so new name
+      ∙ ap (λ w. then_some new w) (sym is_lawful.1)
+      ∙ if_so new word
+      ∙ (λ i. cond (sym is_lawful.0 i && (sym (twice-not new) ∙ ap not (sym h ∙ stands-is)) i) (Some word) None)
 
 -- ---- one name more, as the code adds it
 
@@ -147,29 +159,44 @@ name-not-added word names h = go (lawful_name word && not (stands word (map text
     go true e = never-some word e
     go false e = refl
 
--- ---- the loop over the words of a line
+-- ---- the loop over the words that an iterator has still to give
 
-module _ (line : List ℕ) (from at end : ℕ) (names slice : List Name) (within : at ≤ length line) (stop : end ≡ word_stop line at) (is : slice ≡ names)
-    (so : Named (map text names) (words_from line at) (words_from line from)) where
-  here : Named (map text names) (take (end - at) (drop at line) ∷ words_from line (end + 1)) (words_from line from)
-  here = subst (λ ws. Named (map text names) ws (words_from line from)) (words-from-word line at end within stop) so
+pub record Naming {S : Type 0} (steps : S → Option (Bor (List ℕ)) → S → Type 0) (s : S) (front all : List (List ℕ)) : Type 0 where
+  pub list : List (List ℕ)
+  pub still : YieldsList steps (λ x. x.now) s list
+  pub so : Named front list all
 
-  pub loop-refused : None ≡ cond (lawful_name (take (end - at) (drop at line)) && not (stands (take (end - at) (drop at line)) (map text slice))) (Some (take (end - at) (drop at line))) None
-      → name_list (words_from line from) ≡ Err 4
-  loop-refused h =
-      name-refused (map text names) (take (end - at) (drop at line)) (words_from line (end + 1)) (words_from line from) here
-      (subst (λ xs. false ≡ (lawful_name (take (end - at) (drop at line)) && not (stands (take (end - at) (drop at line)) (map text xs)))) is (name-not-added (take (end - at) (drop at line)) slice h))
+module _ {S : Type 0} (steps : S → Option (Bor (List ℕ)) → S → Type 0) where
+  pub naming-at-first : (s : S) (names : List Name) (ws parts : List (List ℕ)) → names ≡ [] → ws ≡ parts → YieldsList steps (λ x. x.now) s parts → Naming steps s (map text names) ws
+  naming-at-first s names ws parts none same h =
+      record { list = parts; still = h; so = subst (λ xs. Named (map text xs) parts ws) (sym none) (subst (λ vs. Named [] vs ws) same (named-at-first ws)) }
 
-  pub loop-goes : (name : Name) (next : List Name) → Some (text name) ≡ cond (lawful_name (take (end - at) (drop at line)) && not (stands (take (end - at) (drop at line)) (map text slice))) (Some (take (end - at) (drop at line))) None
-      → next ≡ names ++ (name ∷ []) → Named (map text next) (words_from line (end + 1)) (words_from line from)
-  loop-goes name next h more =
-      let added = name-added (take (end - at) (drop at line)) slice name h in
-      let test = subst (λ xs. true ≡ (lawful_name (take (end - at) (drop at line)) && not (stands (take (end - at) (drop at line)) (map text xs)))) is added.0 in
-      let list : map text names ++ (take (end - at) (drop at line) ∷ []) ≡ map text next =
-      ap (λ w. map text names ++ (w ∷ [])) added.1 ∙ sym (map_push text names name) ∙ ap (map text) (sym more) in
-      subst (λ xs. Named xs (words_from line (end + 1)) (words_from line from)) list
-      (name-taken (map text names) (take (end - at) (drop at line)) (words_from line (end + 1)) (words_from line from) here test)
+  pub naming-done : (s t : S) (front all : List (List ℕ)) → Naming steps s front all → steps s None t → name_list all ≡ Ok front
+  naming-done s t front all so h = go so.list so.still so.so
+    where
+      go : (list : List (List ℕ)) → YieldsList steps (λ x. x.now) s list → Named front list all → name_list all ≡ Ok front
+      go [] k n = names-done front all n
+      go (w ∷ ws) k n = absurd (k.runs.0 t h)
 
-pub loop-done : (line : List ℕ) (from at : ℕ) (names : List (List ℕ)) → length line < at → Named names (words_from line at) (words_from line from) → name_list (words_from line from) ≡ Ok names
-loop-done line from at names past so =
-    names-done names (words_from line from) (subst (λ ws. Named names ws (words_from line from)) (cond-false _ (words (drop at line)) [] (lt-leb at (length line) past)) so)
+  module _ (s t : S) (names slice : List Name) (all : List (List ℕ)) (word : Bor (List ℕ)) (is : slice ≡ names) (so : Naming steps s (map text names) all) (h : steps s (Some word) t) where
+    comes : (rest : List (List ℕ)) × YieldsList steps (λ x. x.now) t rest × Named (map text names) (word.now ∷ rest) all
+    comes = go so.list so.still so.so
+      where
+        go : (list : List (List ℕ)) → YieldsList steps (λ x. x.now) s list → Named (map text names) list all
+            → (rest : List (List ℕ)) × YieldsList steps (λ x. x.now) t rest × Named (map text names) (word.now ∷ rest) all
+        go [] k n = absurd (k.runs word t h)
+        go (w ∷ ws) k n = let m = k.runs.1 word t h in (ws, record { runs = m.1 }, subst (λ v. Named (map text names) (v ∷ ws) all) (sym m.0) n)
+
+    pub loop-refused : None ≡ cond (lawful_name word.now && not (stands word.now (map text slice))) (Some word.now) None → name_list all ≡ Err 4
+    loop-refused none =
+        name-refused (map text names) word.now comes.0 all comes.2
+        (subst (λ xs. false ≡ (lawful_name word.now && not (stands word.now (map text xs)))) is (name-not-added word.now slice none))
+
+    pub loop-goes : (name : Name) (next : List Name) → Some (text name) ≡ cond (lawful_name word.now && not (stands word.now (map text slice))) (Some word.now) None
+        → next ≡ names ++ (name ∷ []) → Naming steps t (map text next) all
+    loop-goes name next made more =
+        let added = name-added word.now slice name made in
+        let test = subst (λ xs. true ≡ (lawful_name word.now && not (stands word.now (map text xs)))) is added.0 in
+        let list : map text names ++ (word.now ∷ []) ≡ map text next =
+        ap (λ w. map text names ++ (w ∷ [])) added.1 ∙ sym (map_push text names name) ∙ ap (map text) (sym more) in
+        record { list = comes.0; still = comes.1; so = subst (λ xs. Named xs comes.0 all) list (name-taken (map text names) word.now comes.0 all comes.2 test) }

@@ -1,4 +1,5 @@
-ghost use Rattle.judges.specs.Cursor.{StandsAt, Starts, Steps};
+ghost use Rattle.judges.specs.Cursor.{StandsAt, Starts, Steps, left};
+ghost use Rattle.std.specs.Iterator.{item_count};
 ghost use Rattle.std.specs.Prelude.{◌≡◌, length, nat_lt};
 
 use formats::line::TextLine;
@@ -46,19 +47,20 @@ impl<'a> Lines<'a> {
             number: 1,
         }
     }
+}
 
-    // The next line, or none where the text is at its end.
-    pub fn next_line(&mut self) -> Option<TextLine<'a>>
-        ensures { Steps self.old self.new result }
-    {
-        let number = self.number;
-        match line_from(self.text, self.at, number) {
-            None => None,
-            Some(line) => {
-                self.at += line.bytes.len() + 1;
-                self.number = number.saturating_add(1);
-                Some(line)
-            }
-        }
+impl<'a> Iterator for Lines<'a> {
+    type Item = TextLine<'a>;
+
+    // The line is the first of those left, and stands where it stands among them.
+    ghost next_gives = { λ s r t. Steps s t r };
+
+    ghost remaining = { item_count left };
+
+    fn next(&mut self) -> Option<TextLine<'a>> {
+        let line = line_from(self.text, self.at, self.number)?;
+        self.at += line.bytes.len() + 1;
+        self.number = self.number.saturating_add(1);
+        Some(line)
     }
 }

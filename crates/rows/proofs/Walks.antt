@@ -1,11 +1,12 @@
 -- The words of a line are read from the left, each in its column, by their places in the line. Assumes nothing.
-use Rattle.std.proofs.Common.{◌≡◌, ℕ, ◌+◌, ◌-◌, ◌<◌, ◌≤◌, cond, ltb, leb, List, [], ◌∷◌, ◌++◌, length, get_or, take, drop, set, replicate, Some, None, Ok, Err, Result, sym, refl, ap, ◌∙◌, ⊎_elim, arith}
-use Rattle.std.proofs.lemmas.List.{append-nil, append_assoc, length-set, length-drop, length-take-le, take-append-drop, take_more_set, drop-set-lt, drop-drop, drop_all, drop_more, drop-replicate, nil_from_length}
+use Rattle.std.proofs.Common.{◌≡◌, ℕ, ◌+◌, ◌-◌, ◌<◌, ◌≤◌, cond, eqb, ltb, leb, List, [], ◌∷◌, ◌++◌, length, get_or, take, drop, set, replicate, Some, None, Ok, Err, Result, sym, refl, ap, ◌∙◌, ⊎_elim, zero-add, arith}
+use Rattle.std.proofs.lemmas.List.{append-nil, append_assoc, length-set, length-drop, length-take-le, take-append-drop, take_more_set, drop-set-lt, drop-drop, drop_all, drop_more, drop-replicate}
+use Rattle.std.proofs.lemmas.List.FromFn.{length-enumerate_from, get_or-enumerate_from}
 use Rattle.std.proofs.lemmas.Option.{slice_get-get_or, slice_get_past}
 use Rattle.std.proofs.lemmas.Bool.{cases_lt, cond-true, cond-false, le-leb, lt-leb, ne_eqb}
 use Rattle.std.proofs.lemmas.Bool.Decides.{nat_tests}
-use Rattle.std.specs.List.{slice_get}
-use Rattle.texts.specs.Lines.{words}
+use Rattle.std.specs.List.{slice_get, slice_split, onto_first, enumerate_from}
+use Rattle.texts.specs.Lines.{onto, words}
 use Rattle.texts.proofs.Lists.{never-some}
 use Rattle.texts.proofs.Pieces.{before, words_step}
 use Rattle.rows.specs.declared.cell.Cell.{Cell}
@@ -67,7 +68,10 @@ column-is-here cs place c is = ⊎_elim
     (λ past. never-some c (sym (is ∙ slice_get_past cs place past)))
     (cases_lt place (length cs))
 
-no-column-here : (cs : List Column) (place : ℕ) → None ≡ slice_get cs place → length cs ≤ place
+pub place-within : (cs : List Column) (place : ℕ) (c : Column) → length cs ≤ 11 → Some c ≡ slice_get cs place → place < 11
+place-within cs place c few is = omega (arith, (column-is-here cs place c is).0)
+
+pub no-column-here : (cs : List Column) (place : ℕ) → None ≡ slice_get cs place → length cs ≤ place
 no-column-here cs place is = ⊎_elim
     (λ within. never-some (get_or cs place YesOrNo) (is ∙ slice_get-get_or cs place YesOrNo within))
     (λ past. past)
@@ -87,73 +91,81 @@ miscounted kind names line m n counted expected differ =
 
 -- ---- a turn of the loop
 
--- The cells before `place` are read, and the words from `from` on are left; `before` is the number in the last cell.
-pub record Read (cs : List Column) (names : List (List ℕ)) (line : List ℕ) (place from before : ℕ) (cells : List Cell) : Type 0 where
-  pub most : place ≤ length cs
-  pub count : length (words_from line from) ≡ length cs - place
+-- The library's pieces of a line at its spaces are its words.
+onto-is-onto_first : (b : ℕ) (ws : List (List ℕ)) → onto_first b ws ≡ onto b ws
+onto-is-onto_first b [] = refl
+onto-is-onto_first b (w ∷ ws) = refl
+
+split-is-words : (line : List ℕ) → slice_split (λ b. eqb b 32) line ≡ words line
+split-is-words [] = refl
+split-is-words (b ∷ line) =
+    let rest = split-is-words line in
+    λ i. cond (eqb b 32) ([] ∷ rest i) ((ap (onto_first b) rest ∙ onto-is-onto_first b (words line)) i)
+
+-- The turn of a loop over the words and their places that comes after n others.
+pub this_turn : (line : List ℕ) (n place : ℕ) (w : List ℕ)
+    → (n < length (enumerate_from 0 (slice_split (λ b. eqb b 32) line))) × ((place, w) ≡ get_or (enumerate_from 0 (slice_split (λ b. eqb b 32) line)) n (place, w))
+    → (place ≡ n) × (n < length (words line)) × (w ≡ get_or (words line) n w)
+this_turn line n place w turn =
+    let same = split-is-words line in
+    let within : n < length (words line) = omega (arith, turn.0, length-enumerate_from 0 (slice_split (λ b. eqb b 32) line), ap length same) in
+    let item : (place, w) ≡ (0 + n, get_or (words line) n w) =
+    turn.1 ∙ ap (λ ws. get_or (enumerate_from 0 ws) n (place, w)) same ∙ get_or-enumerate_from 0 (words line) n (place, w) within in
+    (ap (λ p. p.0) item ∙ zero-add n, within, ap (λ p. p.1) item)
+
+-- After the last turn no word is left.
+pub all_turns : (line : List ℕ) (n : ℕ) → n ≡ length (enumerate_from 0 (slice_split (λ b. eqb b 32) line)) → n ≡ length (words line)
+all_turns line n is = is ∙ length-enumerate_from 0 (slice_split (λ b. eqb b 32) line) ∙ ap length (split-is-words line)
+
+-- The first `place` words are read; `before` is the number in the last cell.
+pub record Read (cs : List Column) (names : List (List ℕ)) (ws : List (List ℕ)) (place before : ℕ) (cells : List Cell) : Type 0 where
   pub long : length cells ≡ 11
   pub empty : drop place cells ≡ replicate (11 - place) Absent
-  pub so_far : after (take place cells) (cells_of (drop place cs) names before (words_from line from)) ≡ cells_of cs names 0 (words line)
+  pub so_far : after (take place cells) (cells_of (drop place cs) names before (drop place ws)) ≡ cells_of cs names 0 ws
 
-pub read_none : (cs : List Column) (names : List (List ℕ)) (line : List ℕ) → length (words line) ≡ length cs → Read cs names line 0 0 0 (replicate 11 Absent)
-read_none cs names line count = record {
-  most = omega arith;
-  count = ap length (words-from-start line) ∙ count ∙ omega arith;
+pub read_none : (cs : List Column) (names : List (List ℕ)) (ws : List (List ℕ)) → Read cs names ws 0 0 (replicate 11 Absent)
+read_none cs names ws = record {
   long = refl;
   empty = refl;
-  so_far = after_none (cells_of cs names 0 (words_from line 0)) ∙ ap (cells_of cs names 0) (words-from-start line);
+  so_far = after_none (cells_of cs names 0 ws);
 }
 
-module _ (cs : List Column) (names : List (List ℕ)) (line : List ℕ) (place from before : ℕ) (cells : List Cell) (few : length cs ≤ 11) (so : Read cs names line place from before cells) where
-  module _ (c : Column) (is : Some c ≡ slice_get cs place) where
-    here : (place < length cs) × (drop place cs ≡ c ∷ drop (place + 1) cs)
-    here = column-is-here cs place c is
+module _ (cs : List Column) (names : List (List ℕ)) (ws : List (List ℕ)) (place before : ℕ) (cells : List Cell) (so : Read cs names ws place before cells) where
+  module _ (c : Column) (is : Some c ≡ slice_get cs place) (w : List ℕ) (here : (place < length ws) × (w ≡ get_or ws place w)) where
+    first : drop place cs ≡ c ∷ drop (place + 1) cs
+    first = (column-is-here cs place c is).1
 
-    pub place-before : place < length cs
-    place-before = here.0
+    next : drop place ws ≡ w ∷ drop (place + 1) ws
+    next = drop_more ws place w here.0 ∙ ap (λ v. v ∷ drop (place + 1) ws) (sym here.1)
 
-    pub place-within : place < 11
-    place-within = omega (arith, here.0)
+    abbrev rest : Result Cell WordFault → Result (List Cell) WordFault
+    rest r = and_then r (λ cell. and_then (cells_of (drop (place + 1) cs) names (number_in cell) (drop (place + 1) ws)) (λ more. Ok (cell ∷ more)))
 
-    pub word-within : from ≤ length line
-    word-within = word-begins-within line from (omega (arith, so.count, here.0))
+    goes_on : (r : Result Cell WordFault) → r ≡ cell_of c names before w → after (take place cells) (rest r) ≡ cells_of cs names 0 ws
+    goes_on r reads =
+        ap (λ v. after (take place cells) (rest v)) reads
+        ∙ (λ i. after (take place cells) (cells_of (sym first i) names before (sym next i)))
+        ∙ so.so_far
 
-    module _ (end : ℕ) (at : end ≡ word_stop line from) where
-      next : words_from line from ≡ take (end - from) (drop from line) ∷ words_from line (end + 1)
-      next = words-from-word line from end word-within at
+    pub read-fails : (e : WordFault) → Err e ≡ cell_of c names before w → Err e ≡ row_result (cells_of cs names 0 ws)
+    read-fails e reads = ap row_result (goes_on (Err e) reads)
 
-      goes_on : (r : Result Cell WordFault) → r ≡ cell_of c names before (take (end - from) (drop from line))
-          → after (take place cells) (and_then r (λ cell. and_then (cells_of (drop (place + 1) cs) names (number_in cell) (words_from line (end + 1))) (λ more. Ok (cell ∷ more))))
-          ≡ cells_of cs names 0 (words line)
-      goes_on r reads =
-          ap (λ v. after (take place cells) (and_then v (λ cell. and_then (cells_of (drop (place + 1) cs) names (number_in cell) (words_from line (end + 1))) (λ more. Ok (cell ∷ more))))) reads
-          ∙ (λ i. after (take place cells) (cells_of (sym here.1 i) names before (sym next i)))
-          ∙ so.so_far
+    pub read_more : (cell : Cell) (n : ℕ) → place < 11 → Ok cell ≡ cell_of c names before w → n ≡ number_in cell → Read cs names ws (place + 1) n (set cells place cell)
+    read_more cell n within reads told = record {
+      long = length-set cells place cell ∙ so.long;
+      empty =
+          drop-set-lt (place + 1) cells place cell (omega arith)
+          ∙ sym (drop-drop 1 place cells)
+          ∙ ap (drop 1) so.empty
+          ∙ drop-replicate 1 (11 - place) Absent
+          ∙ (let e : 11 - place - 1 ≡ 11 - (place + 1) = omega arith in ap (λ k. replicate k Absent) e);
+      so_far =
+          (λ i. after (take_more_set cells place cell (omega (arith, so.long, within)) i) (cells_of (drop (place + 1) cs) names (told i) (drop (place + 1) ws)))
+          ∙ sym (after-one-more (take place cells) cell (cells_of (drop (place + 1) cs) names (number_in cell) (drop (place + 1) ws)))
+          ∙ goes_on (Ok cell) reads;
+    }
 
-      pub read-fails : (e : WordFault) → Err e ≡ cell_of c names before (take (end - from) (drop from line)) → Err e ≡ row_result (cells_of cs names 0 (words line))
-      read-fails e reads = ap row_result (goes_on (Err e) reads)
-
-      pub read_more : (cell : Cell) (n : ℕ) → Ok cell ≡ cell_of c names before (take (end - from) (drop from line)) → n ≡ number_in cell
-          → Read cs names line (place + 1) (end + 1) n (set cells place cell)
-      read_more cell n reads told = record {
-        most = omega (arith, here.0);
-        count = let one = ap length next in omega (arith, one, so.count);
-        long = length-set cells place cell ∙ so.long;
-        empty =
-            drop-set-lt (place + 1) cells place cell (omega arith)
-            ∙ sym (drop-drop 1 place cells)
-            ∙ ap (drop 1) so.empty
-            ∙ drop-replicate 1 (11 - place) Absent
-            ∙ (let e : 11 - place - 1 ≡ 11 - (place + 1) = omega arith in ap (λ k. replicate k Absent) e);
-        so_far =
-            (λ i. after (take_more_set cells place cell (omega (arith, so.long, place-within)) i) (cells_of (drop (place + 1) cs) names (told i) (words_from line (end + 1))))
-            ∙ sym (after-one-more (take place cells) cell (cells_of (drop (place + 1) cs) names (number_in cell) (words_from line (end + 1))))
-            ∙ goes_on (Ok cell) reads;
-      }
-
-  pub read_all : None ≡ slice_get cs place → Ok (record { cells = cells }) ≡ row_result (cells_of cs names 0 (words line))
-  read_all is =
-      let past : length cs ≤ place = no-column-here cs place is in
-      let none : words_from line from ≡ [] = nil_from_length (words_from line from) (omega (arith, so.count, past)) in
-      ap (λ v. Ok (record { cells = v })) (whole_row place cells (omega (arith, so.most)) so.long so.empty)
-      ∙ ap row_result ((λ i. after (take place cells) (cells_of (sym (drop_all place cs past) i) names before (sym none i))) ∙ so.so_far)
+  pub read_all : place ≡ length ws → length ws ≡ length cs → length cs ≤ 11 → Ok (record { cells = cells }) ≡ row_result (cells_of cs names 0 ws)
+  read_all end count few =
+      ap (λ v. Ok (record { cells = v })) (whole_row place cells (omega arith) so.long so.empty)
+      ∙ ap row_result ((λ i. after (take place cells) (cells_of (sym (drop_all place cs (omega arith)) i) names before (sym (drop_all place ws (omega arith)) i))) ∙ so.so_far)

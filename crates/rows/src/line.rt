@@ -1,13 +1,12 @@
 ghost use Rattle.rows.specs.Rows.{cells_of, columns, row_of, row_result, word_stop};
-ghost use Rattle.clocks.specs.Texts.{text};
 ghost use Rattle.texts.specs.Lines.{words};
-ghost use Rattle.std.specs.Prelude.{◌≡◌, ◌≤◌, min, map, length, take};
+ghost use Rattle.std.specs.Prelude.{◌≡◌, ◌≤◌, min, length};
 
 use crate::cell::{Cell, Row, RowKind, WordFault};
 use crate::content::number_in;
 use crate::kind::{column, column_count};
 use crate::word::read_cell;
-use clocks::name::Name;
+use clocks::events::Events;
 use texts::lines::{Run, end_from};
 use texts::words::word_count;
 
@@ -21,31 +20,37 @@ pub fn word_stop(line: &[u8], from: usize) -> usize
 }
 
 // The words from the left, each in its column: the first at fault decides.
-fn read_words(kind: RowKind, names: &[Name], line: &[u8], number: u32) -> Result<Row, WordFault>
+fn read_words(
+    kind: RowKind,
+    events: &Events<'_>,
+    line: &[u8],
+    number: u32,
+) -> Result<Row, WordFault>
     requires { length (words line.now) ≡ length (columns kind) }
-    ensures { result ≡ row_result (cells_of (columns kind) (take 8 (map text names.now)) 0 (words line.now)) }
+    ensures { result ≡ row_result (cells_of (columns kind) events.now 0 (words line.now)) }
 {
     let mut cells = [Cell::Absent; 11];
     let mut before = 0;
-    let mut from = 0;
-    let mut place = 0;
-    while let Some(next) = column(kind, place) {
-        let end = word_stop(line, from);
-        let cell = read_cell(next, names, before, &line[from..end], number)?;
+    for (place, word) in line.split(|b| *b == b' ').enumerate() {
+        let column = column(kind, place).ok_or(WordFault::Misfit)?;
+        let cell = read_cell(column, events, before, word, number)?;
         cells[place] = cell;
         before = number_in(cell);
-        from = end + 1;
-        place += 1;
     }
     Ok(Row { cells })
 }
 
-// The cells of a line. The number of its words comes before the words. Names past the eighth name no event.
-pub fn read_row(kind: RowKind, names: &[Name], line: &[u8], number: u32) -> Result<Row, WordFault>
-    ensures { result ≡ row_result (row_of kind (take 8 (map text names.now)) line.now) }
+// The cells of a line. The number of its words comes before the words.
+pub fn read_row(
+    kind: RowKind,
+    events: &Events<'_>,
+    line: &[u8],
+    number: u32,
+) -> Result<Row, WordFault>
+    ensures { result ≡ row_result (row_of kind events.now line.now) }
 {
     if word_count(line) == column_count(kind) {
-        read_words(kind, names, line, number)
+        read_words(kind, events, line, number)
     } else {
         Err(WordFault::Misfit)
     }

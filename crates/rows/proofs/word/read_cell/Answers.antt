@@ -1,10 +1,8 @@
-use Rattle.std.proofs.Common.{map, take, ◌∙◌}
-use Rattle.clocks.specs.Texts.{text}
-use Rattle.rows.proofs.Shaped.{cell-by-token, eight-are-lawful}
+use Rattle.std.proofs.Common.{◌∙◌}
+use Rattle.rows.proofs.Shaped.{cell-by-token}
 use Rattle.rows.proofs.word.read_cell.Goals as goal
 
-pub returns : goal.returns
-returns c =
+pub returns-in_default : goal.returns-in_default
+returns-in_default c =
     c.cell_from.ensures
-    ∙ cell-by-token c.args.column (take 8 (map text c.args.names.now)) c.args.before c.args.word.now c.args.line _
-    (eight-are-lawful c.args.names.now) c.token_of.ensures
+    ∙ cell-by-token c.args.column c.args.events.now c.args.before c.args.word.now c.args.line _ c.in_default.not-EventName c.token_of.ensures
