@@ -1,14 +1,13 @@
 ghost use Rattle.sheets.specs.Distances.{ListRead, ListTaken};
 ghost use Rattle.sheets.specs.DistanceReading.{distance_parts_of};
 ghost use Rattle.formats.specs.DistanceText.{DistancesOrFault, read_distances};
-ghost use Rattle.formats.specs.EntryLines.{event_names};
 ghost use Rattle.formats.specs.Faults.{AgreesOnText};
 ghost use Rattle.tables.specs.Held.{contents};
 
 use crate::list::DistanceList;
 use crate::reading::read_text;
 use crate::spans::DistanceReader;
-use clocks::name::Name;
+use clocks::events::Events;
 use formats::fault::SheetFault;
 use std::alloc::Global;
 use tables::table::Table;
@@ -17,11 +16,11 @@ use tables::table::Table;
 fn read_parts<'a>(
     heap: Global,
     text: &[u8],
-    names: &'a [Name],
+    events: Events<'a>,
 ) -> Result<DistanceReader<'a>, SheetFault>
-    ensures { AgreesOnText distance_parts_of result (read_distances (event_names names.now) text.now) }
+    ensures { AgreesOnText distance_parts_of result (read_distances events.entry text.now) }
 {
-    let mut reader = DistanceReader::new(heap, names);
+    let mut reader = DistanceReader::new(heap, events);
     read_text(&mut reader, text, 32768)?;
     Ok(reader)
 }
@@ -30,7 +29,7 @@ fn list_in(heap: Global, text: &[u8], table: &Table) -> Result<DistanceList, She
     ensures value { ListRead result (contents table.now).names text.now }
     ensures one { DistancesOrFault (contents table.now).names text.now }
 {
-    let reader = read_parts(heap, text, table.names())?;
+    let reader = read_parts(heap, text, Events::first_eight(table.names()))?;
     Ok(reader.list(table.events().max(1)))
 }
 

@@ -7,6 +7,7 @@ ghost use Rattle.texts.specs.Lines.{ended, lines};
 ghost use Rattle.std.specs.Prelude.{◌≡◌, ◌≤◌, ◌++◌, length, drop, Ok};
 
 use crate::reading::{LineReader, read_text};
+use clocks::events::Events;
 use clocks::name::Name;
 use formats::claim::{Claim, EntryStage};
 use formats::fault::{LineFault, SheetFault};
@@ -15,10 +16,10 @@ use judges::cursor::Lines;
 use judges::entry::entry_line;
 use tables::table::Table;
 
-// How many claims an entries text has for the events with these names, as far as it has been read. There may be `room`.
+// How many claims an entries text has for these events, as far as it has been read. There may be `room`.
 #[derive(Drop)]
 struct ClaimCounter<'a> {
-    names: &'a [Name],
+    events: &'a Events<'a>,
     room: usize,
     stage: EntryStage,
     count: usize,
@@ -29,14 +30,14 @@ impl<'a> LineReader for ClaimCounter<'a> {
 
     ghost parts = { λ r. record { stage = r.stage; count = r.count } };
 
-    ghost step = { λ r. count_step (event_names r.names.now) r.room };
+    ghost step = { λ r. count_step r.events.now r.room };
 
     ghost Good = { λ _. Unit {0} };
 
     ghost Lacks = { ⊥ };
 
     fn line(&mut self, line: TextLine) -> Result<(), LineFault> {
-        if entry_line(self.stage, self.count, self.room, self.names, line)?.is_some() {
+        if entry_line(self.stage, self.count, self.room, self.events, line)?.is_some() {
             self.count += 1;
         }
         self.stage = EntryStage::Rows;
@@ -47,11 +48,11 @@ impl<'a> LineReader for ClaimCounter<'a> {
 }
 
 // How many claims the text has, of which there may be `room`.
-fn count_entries(text: &[u8], names: &[Name], room: usize) -> Result<usize, SheetFault>
-    ensures { Counts result (read_entries (event_names names.now) room text.now) }
+fn count_entries(text: &[u8], events: &Events<'_>, room: usize) -> Result<usize, SheetFault>
+    ensures { Counts result (read_entries events.now room text.now) }
 {
     let mut counter = ClaimCounter {
-        names,
+        events,
         room,
         stage: EntryStage::Head,
         count: 0,
@@ -61,15 +62,15 @@ fn count_entries(text: &[u8], names: &[Name], room: usize) -> Result<usize, Shee
 }
 
 // The claims of lines that are all taken, to the front of the list.
-fn fill_claims(text: &[u8], names: &[Name], claims: &mut [Claim])
-    ensures { (s : EntryParts) → walk (entry_step (event_names names.now) (length claims.old)) (ended text.now) entry_start 1 (lines text.now) ≡ Ok s → claims.new ≡ s.claims ++ drop (length s.claims) claims.old }
+fn fill_claims(text: &[u8], events: &Events<'_>, claims: &mut [Claim])
+    ensures { (s : EntryParts) → walk (entry_step events.now (length claims.old)) (ended text.now) entry_start 1 (lines text.now) ≡ Ok s → claims.new ≡ s.claims ++ drop (length s.claims) claims.old }
 {
     let room = claims.len();
-    let mut cursor = Lines::new(text);
     let mut stage = EntryStage::Head;
+    // How many claims there are so far. A zip of claims and lines would keep no count, but tells a proof nothing of what was written.
     let mut count = 0;
-    while let Some(line) = cursor.next_line() {
-        match entry_line(stage, count, room, names, line) {
+    for line in Lines::new(text) {
+        match entry_line(stage, count, room, events, line) {
             Ok(Some(claim)) => {
                 claims[count] = claim;
                 count += 1;
@@ -86,8 +87,9 @@ fn fill_claims(text: &[u8], names: &[Name], claims: &mut [Claim])
 pub fn read_entries(text: &[u8], names: &[Name], claims: &mut [Claim]) -> Result<usize, SheetFault>
     ensures { Fills result (read_entries (event_names names.now) (length claims.old) text.now) claims.old claims.new }
 {
-    let count = count_entries(text, names, claims.len())?;
-    fill_claims(text, names, claims);
+    let events = Events::first_eight(names);
+    let count = count_entries(text, &events, claims.len())?;
+    fill_claims(text, &events, claims);
     Ok(count)
 }
 

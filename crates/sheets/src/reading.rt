@@ -41,8 +41,7 @@ fn read_lines<R: LineReader>(reader: &mut R, text: &[u8]) -> Result<(), SheetFau
     requires good { R.Good (R.parts reader.old) }
     ensures { TakesText R.Lacks result (R.parts reader.new) (walk (R.step reader.old) (ended text.now) (R.parts reader.old) 1 (lines text.now)) }
 {
-    let mut cursor = Lines::new(text);
-    while let Some(line) = cursor.next_line() {
+    for line in Lines::new(text) {
         if let Err(fault) = reader.line(line) {
             return Err(fault.at_line(line.number));
         }

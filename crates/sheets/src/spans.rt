@@ -4,16 +4,16 @@ ghost use Rattle.formats.specs.DistanceText.{distance_start, distances_held, law
 ghost use Rattle.std.specs.Prelude.{◌≡◌, ◌≤◌, true};
 
 use crate::list::DistanceList;
-use clocks::name::Name;
+use clocks::events::Events;
 use formats::distance::{Distance, DistanceStage};
 use std::alloc::Global;
 
 mod steps;
 
-// A distance text as far as it has been read, for the events with these names.
+// A distance text as far as it has been read, for these events.
 #[derive(Drop)]
 pub(crate) struct DistanceReader<'a> {
-    names: &'a [Name],
+    events: Events<'a>,
     stage: DistanceStage,
     tick: Option<u16>,
     lines: Vec<Distance>,
@@ -21,12 +21,12 @@ pub(crate) struct DistanceReader<'a> {
 
 impl<'a> DistanceReader<'a> {
     // Before the first line.
-    pub(crate) fn new(heap: Global, names: &'a [Name]) -> DistanceReader<'a>
+    pub(crate) fn new(heap: Global, events: Events<'a>) -> DistanceReader<'a>
         ensures start { distance_parts_of result ≡ distance_start }
-        ensures names { result.names.now ≡ names.now }
+        ensures events { result.events ≡ events.entry }
     {
         DistanceReader {
-            names,
+            events,
             stage: DistanceStage::TickHead,
             tick: None,
             lines: Vec::new(heap),

@@ -9,8 +9,9 @@ ghost use Rattle.std.specs.Prelude.{◌≡◌, ◌≤◌, map, length, drop};
 use crate::reader::TableReader;
 use crate::reading::LineReader;
 use crate::shared::{head, tick_row};
+use clocks::events::Events;
 use formats::fault::LineFault;
-use formats::line::{SheetLimits, TextLine};
+use formats::line::{SheetLimits, SheetRows, TextLine};
 use formats::stage::Stage;
 use judges::heads::judge_edge_head;
 use judges::judging::judge_row;
@@ -43,8 +44,12 @@ impl TableReader {
     fn place_row(&mut self, line: TextLine) -> Result<(), LineFault>
         ensures { Steps result self.new (step_at PlaceRows (parts_of self.old) (line_in line.entry)) }
     {
-        let count = self.places.len();
-        match judge_row(line, PLACES, count, RowKind::Place(count as u64), &[])? {
+        let rows = SheetRows {
+            limits: PLACES,
+            count: self.places.len(),
+        };
+        let kind = RowKind::Place(rows.count as u64);
+        match judge_row(line, rows, kind, &Events::first_eight(&[]))? {
             None => self.stage = Stage::EdgeHead,
             Some(row) => {
                 self.stage = Stage::PlaceRows;
@@ -71,10 +76,15 @@ impl TableReader {
         requires names { length self.old.names.items ≤ 8 }
         ensures { Steps result self.new (step_at EdgeRows (parts_of self.old) (line_in line.entry)) }
     {
+        let rows = SheetRows {
+            limits: EDGES,
+            count: self.edges.len(),
+        };
         let most = self.places.len().saturating_sub(1) as u64;
-        let kind = RowKind::Edge(most, self.names.len() as u8);
+        let events = Events::first_eight(self.names.as_slice());
+        let kind = RowKind::Edge(most, events.count());
         self.stage = Stage::EdgeRows;
-        if let Some(row) = judge_row(line, EDGES, self.edges.len(), kind, self.names.as_slice())? {
+        if let Some(row) = judge_row(line, rows, kind, &events)? {
             let source = number_in(row.cells[0]) as u8;
             let target = number_in(row.cells[1]) as u8;
             let event = event_in(row.cells[2]);

@@ -1,6 +1,5 @@
 ghost use Rattle.sheets.specs.DistanceReading.{Spans, distance_parts_of};
 ghost use Rattle.formats.specs.DistanceText.{DistanceParts, distance_step, distance_step_at};
-ghost use Rattle.formats.specs.EntryLines.{event_names};
 ghost use Rattle.formats.specs.Faults.{line_in};
 ghost use Rattle.formats.specs.declared.distance.DistanceStage.TheVariants.{LineRows};
 ghost use Rattle.std.specs.Prelude.{◌≡◌};
@@ -10,7 +9,7 @@ use crate::shared::{head, tick_row};
 use crate::spans::DistanceReader;
 use formats::distance::{Distance, DistanceStage};
 use formats::fault::LineFault;
-use formats::line::{SheetLimits, TextLine};
+use formats::line::{SheetLimits, SheetRows, TextLine};
 use judges::judging::judge_row;
 use rows::cell::RowKind;
 use rows::content::{event_in, number_in};
@@ -24,12 +23,15 @@ const DISTANCES: SheetLimits = SheetLimits {
 impl<'a> DistanceReader<'a> {
     // A row of a distance.
     fn distance_row(&mut self, line: TextLine) -> Result<(), LineFault>
-        ensures gives { Spans result self.new (distance_step_at (event_names self.old.names.now) LineRows (distance_parts_of self.old) (line_in line.entry)) }
-        ensures same { self.new.names ≡ self.old.names }
+        ensures gives { Spans result self.new (distance_step_at self.old.events LineRows (distance_parts_of self.old) (line_in line.entry)) }
+        ensures same { self.new.events ≡ self.old.events }
     {
         self.stage = DistanceStage::LineRows;
-        let count = self.lines.len();
-        if let Some(row) = judge_row(line, DISTANCES, count, RowKind::Distance, self.names)? {
+        let rows = SheetRows {
+            limits: DISTANCES,
+            count: self.lines.len(),
+        };
+        if let Some(row) = judge_row(line, rows, RowKind::Distance, &self.events)? {
             let on = event_in(row.cells[0]);
             let since = event_in(row.cells[1]);
             let least = number_in(row.cells[2]) as u8;
@@ -50,7 +52,7 @@ impl<'a> LineReader for DistanceReader<'a> {
 
     ghost parts = { distance_parts_of };
 
-    ghost step = { λ r. distance_step (event_names r.names.now) };
+    ghost step = { λ r. distance_step r.events };
 
     ghost Good = { λ _. Unit {0} };
 
