@@ -5,14 +5,13 @@ use Rattle.tables.specs.Held.{contents}
 use Rattle.tables.proofs.Held.{kept, names-kept}
 use Rattle.sheets.specs.DistanceReading.{distance_parts_of}
 use Rattle.formats.specs.DistanceText.{OnlyDistances, distances_held, read_distances}
-use Rattle.formats.specs.EntryLines.{event_names}
 use Rattle.formats.specs.Faults.{Fails, refusal}
 use Rattle.formats.proofs.DistanceLaws.{lawful-for-more, distances-taken, distances-not-read, distances-or-fault}
 use Rattle.sheets.proofs.distances.list_in.Goals as goal
 use Rattle.sheets.proofs.distances.list_in.Goals.{After-read_parts, In_ok-reader}
 
-told : (c : After-read_parts) → event_names c.names.result.now ≡ (contents c.args.table.now).names
-told c = ap (take 8) c.names.ensures ∙ take_all 8 (contents c.args.table.now).names (kept c.args.table.now).events
+told : (c : After-read_parts) → c.first_eight.result ≡ (contents c.args.table.now).names
+told c = c.first_eight.ensures ∙ ap (take 8) c.names.ensures ∙ take_all 8 (contents c.args.table.now).names (kept c.args.table.now).events
 
 taken : (c : In_ok-reader) → OnlyDistances (contents c.args.table.now).names c.args.text.now (distances_held (distance_parts_of c.in_ok-reader.reader))
 taken c =

@@ -1,7 +1,6 @@
 use Rattle.std.proofs.Common.{ℕ, List, sym, subst}
 use Rattle.std.specs.Option.{option_to_list}
 use Rattle.formats.specs.DistanceText.{distance_step_at}
-use Rattle.formats.specs.EntryLines.{event_names}
 use Rattle.formats.specs.Faults.{Agrees, line_in}
 use Rattle.formats.specs.declared.distance.DistanceStage.{DistanceStage}
 use Rattle.formats.specs.declared.distance.DistanceStage.TheVariants.{TickRows, LineHead}
@@ -13,7 +12,7 @@ use Rattle.sheets.proofs.spans.steps.DistanceReaderLineReader.line.Goals as goal
 pub returns-in-TickRows-clause-line : goal.returns-in-TickRows-clause-line
 returns-in-TickRows-clause-line c =
     let s = distance_parts_of c.args.self.now in
-    let names = event_names c.args.self.now.names.now in
+    let names = c.args.self.now.events in
     let l = line_in c.args.line in
     let r = c.tick_row.result in
     let after : DistanceStage × List ℕ = (c.tick_row.new.stage, option_to_list c.tick_row.new.tick) in
