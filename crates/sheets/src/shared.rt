@@ -1,7 +1,7 @@
-ghost use Rattle.formats.specs.Faults.{Agrees, line_in};
+ghost use Rattle.formats.specs.Faults.{line_in};
 ghost use Rattle.formats.specs.TableText.{head_is};
 ghost use Rattle.formats.specs.Walk.{head_step};
-ghost use Rattle.sheets.specs.Reading.{tick_step};
+ghost use Rattle.sheets.specs.Reading.{Leads, tick_step};
 ghost use Rattle.std.specs.Option.{option_to_list};
 ghost use Rattle.std.specs.Prelude.{◌≡◌, length};
 
@@ -17,7 +17,7 @@ pub(crate) fn head<S: Copy>(
     more: usize,
     head: &[u8],
 ) -> Result<(), LineFault>
-    ensures { Agrees (λ _. stage.new) result (head_step more (head_is head.now line.entry.bytes.now) (line_in line.entry) rows) }
+    ensures { Leads result stage.new (head_step more (head_is head.now line.entry.bytes.now) (line_in line.entry) rows) }
 {
     judge_head(line, more, head)?;
     *stage = rows;
@@ -31,7 +31,6 @@ fn tick_count(tick: Option<u16>) -> usize
 }
 
 // The row of the tick, or the end of its sheet with `more` sheets after it, of which the head is due next.
-
 pub(crate) fn tick_row<S: Copy>(
     stage: &mut S,
     tick: &mut Option<u16>,
@@ -39,7 +38,7 @@ pub(crate) fn tick_row<S: Copy>(
     line: TextLine,
     more: usize,
 ) -> Result<(), LineFault>
-    ensures { Agrees (λ _. (stage.new, option_to_list tick.new)) result (tick_step more stage.old head (option_to_list tick.old) (line_in line.entry)) }
+    ensures { Leads result (stage.new, option_to_list tick.new) (tick_step more stage.old head (option_to_list tick.old) (line_in line.entry)) }
 {
     match judge_tick(line, tick_count(*tick), more)? {
         Some(read) => *tick = Some(read),

@@ -1,5 +1,6 @@
 ghost use Rattle.formats.specs.Faults.{line_in};
-ghost use Rattle.sheets.specs.Reader.{Steps, parts_of};
+ghost use Rattle.sheets.specs.Reader.{parts_of};
+ghost use Rattle.sheets.specs.Reading.{Leads};
 ghost use Rattle.formats.specs.TableText.{Parts, step_at, table_step};
 ghost use Rattle.formats.proofs.TableRead.{GoodAt, good-kept};
 ghost use Rattle.formats.specs.declared.stage.Stage.TheVariants.{PlaceRows, EdgeHead, EdgeRows};
@@ -42,7 +43,7 @@ fn bounds_in(row: Row) -> [Bound; 8]
 impl TableReader {
     // A row of a place, or the end of the places.
     fn place_row(&mut self, line: TextLine) -> Result<(), LineFault>
-        ensures { Steps result self.new (step_at PlaceRows (parts_of self.old) (line_in line.entry)) }
+        ensures { Leads result (parts_of self.new) (step_at PlaceRows (parts_of self.old) (line_in line.entry)) }
     {
         let rows = SheetRows {
             limits: PLACES,
@@ -63,7 +64,7 @@ impl TableReader {
 
     // The head of the edges, with the names of the events.
     fn edge_head(&mut self, line: TextLine) -> Result<(), LineFault>
-        ensures { Steps result self.new (step_at EdgeHead (parts_of self.old) (line_in line.entry)) }
+        ensures { Leads result (parts_of self.new) (step_at EdgeHead (parts_of self.old) (line_in line.entry)) }
     {
         self.names = judge_edge_head(*self.names.allocator(), line)?;
         self.stage = Stage::EdgeRows;
@@ -74,7 +75,7 @@ impl TableReader {
     fn edge_row(&mut self, line: TextLine) -> Result<(), LineFault>
         requires places { length self.old.places.items ≤ 32 }
         requires names { length self.old.names.items ≤ 8 }
-        ensures { Steps result self.new (step_at EdgeRows (parts_of self.old) (line_in line.entry)) }
+        ensures { Leads result (parts_of self.new) (step_at EdgeRows (parts_of self.old) (line_in line.entry)) }
     {
         let rows = SheetRows {
             limits: EDGES,

@@ -1,4 +1,5 @@
-ghost use Rattle.sheets.specs.DistanceReading.{Spans, distance_parts_of};
+ghost use Rattle.sheets.specs.DistanceReading.{distance_parts_of};
+ghost use Rattle.sheets.specs.Reading.{Leads};
 ghost use Rattle.formats.specs.DistanceText.{DistanceParts, distance_step, distance_step_at};
 ghost use Rattle.formats.specs.Faults.{line_in};
 ghost use Rattle.formats.specs.declared.distance.DistanceStage.TheVariants.{LineRows};
@@ -23,7 +24,7 @@ const DISTANCES: SheetLimits = SheetLimits {
 impl<'a> DistanceReader<'a> {
     // A row of a distance.
     fn distance_row(&mut self, line: TextLine) -> Result<(), LineFault>
-        ensures gives { Spans result self.new (distance_step_at self.old.events LineRows (distance_parts_of self.old) (line_in line.entry)) }
+        ensures gives { Leads result (distance_parts_of self.new) (distance_step_at self.old.events LineRows (distance_parts_of self.old) (line_in line.entry)) }
         ensures same { self.new.events ≡ self.old.events }
     {
         self.stage = DistanceStage::LineRows;
