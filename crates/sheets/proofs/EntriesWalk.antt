@@ -25,12 +25,12 @@ use Rattle.sheets.proofs.Walking.{Walking, walked, begins, goes_on, fails}
 
 -- ---- one line
 
-abbrev on_parts : EntryParts → Result (Option Claim) ℕ → Result EntryParts ℕ
+abbrev pub on_parts : EntryParts → Result (Option Claim) ℕ → Result EntryParts ℕ
 on_parts p (Ok x) = Ok (entry_next p x)
 on_parts p (Err n) = Err n
 
 module _ (names : List (List ℕ)) (room : ℕ) where
-  step_gives : (stage : EntryStage) (p : EntryParts) (l : Line) → entry_step_at names room stage p l ≡ on_parts p (entry_gives names room stage (length p.claims) l)
+  pub step_gives : (stage : EntryStage) (p : EntryParts) (l : Line) → entry_step_at names room stage p l ≡ on_parts p (entry_gives names room stage (length p.claims) l)
   step_gives Head p l = go (misspaced l) (lacks_sheet 0 l) (eqb (head_is (entry_head names) l.bytes) 0)
     where
       wrong : ℕ

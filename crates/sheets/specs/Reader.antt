@@ -1,27 +1,17 @@
--- What a reader of table texts holds, and when a step of its agrees with what is defined.
-use Rattle.std.specs.Prelude.{◌≡◌, ℕ, ◌≤◌, List, map, length, Ok, Err, vec_items, Result}
+-- What a reader of table texts holds, and what reading promises.
+use Rattle.std.specs.Prelude.{ℕ, List, map, Ok, Err, vec_items, Result}
 use Rattle.std.specs.Option.{option_to_list}
 use Rattle.clocks.specs.Texts.{text}
 use Rattle.tables.specs.Held.{contents}
 use Rattle.tables.specs.declared.table.Table.{Table}
-use Rattle.formats.specs.declared.fault.LineFault.{LineFault}
 use Rattle.formats.specs.declared.fault.SheetFault.{SheetFault}
 use Rattle.sheets.specs.declared.reader.TableReader.{TableReader}
-use Rattle.formats.specs.declared.stage.Stage.TheVariants.{EdgeRows}
-use Rattle.formats.specs.Faults.{Agrees, refusal}
+use Rattle.formats.specs.Faults.{refusal}
 use Rattle.formats.specs.Least.{Refused}
 use Rattle.formats.specs.TableText.{Parts, IsTable, OnlyTable, table_format}
 
 abbrev pub parts_of : TableReader → Parts
 parts_of r = record { stage = r.stage; ticks = option_to_list r.tick; places = vec_items r.places; names = map text (vec_items r.names); edges = vec_items r.edges }
-
--- Where the rows of edges stand, there are at most 32 places and 8 names.
-abbrev pub Within : TableReader → Type 0
-Within r = r.stage ≡ EdgeRows → (length (vec_items r.places) ≤ 32) × (length (vec_items r.names) ≤ 8)
-
--- The step is as defined, and leaves this.
-abbrev pub Steps : Result (Unit {0}) LineFault → TableReader → Result Parts ℕ → Type 0
-Steps r after d = Agrees (λ _. parts_of after) r d
 
 -- The table that was read, or why there is none.
 abbrev pub TableRead : Result Table SheetFault → List ℕ → Type 0

@@ -1,59 +1,76 @@
 ghost use Rattle.formats.specs.EntriesText.{EntriesOrFault, EntriesTaken, EntryParts, entry_start, entry_step, read_entries};
+ghost use Rattle.sheets.specs.Counting.{Counted, count_step};
 ghost use Rattle.tables.specs.Held.{contents};
 ghost use Rattle.formats.specs.EntryLines.{Counts, Fills, event_names};
 ghost use Rattle.formats.specs.Walk.{walk};
 ghost use Rattle.texts.specs.Lines.{ended, lines};
 ghost use Rattle.std.specs.Prelude.{◌≡◌, ◌≤◌, ◌++◌, length, drop, Ok};
 
+use crate::reading::{LineReader, read_text};
+use clocks::events::Events;
 use clocks::name::Name;
 use formats::claim::{Claim, EntryStage};
-use formats::fault::SheetFault;
+use formats::fault::{LineFault, SheetFault};
+use formats::line::TextLine;
 use judges::cursor::Lines;
 use judges::entry::entry_line;
 use tables::table::Table;
-use texts::bytes::check_bytes;
-use texts::fault::TextFault;
 
-// How many claims the lines have, of which there may be `room`.
-fn count_lines(text: &[u8], names: &[Name], room: usize) -> Result<usize, SheetFault>
-    requires { length text.now ≤ 65536 }
-    ensures { Counts result (walk (entry_step (event_names names.now) room) (ended text.now) entry_start 1 (lines text.now)) }
-{
-    let mut cursor = Lines::new(text);
-    let mut stage = EntryStage::Head;
-    let mut count = 0;
-    while let Some(line) = cursor.next_line() {
-        match entry_line(stage, count, room, names, line) {
-            Ok(Some(_claim)) => count += 1,
-            Ok(None) => {}
-            Err(fault) => return Err(fault.at_line(line.number)),
+// How many claims an entries text has for these events, as far as it has been read. There may be `room`.
+#[derive(Drop)]
+struct ClaimCounter<'a> {
+    events: &'a Events<'a>,
+    room: usize,
+    stage: EntryStage,
+    count: usize,
+}
+
+impl<'a> LineReader for ClaimCounter<'a> {
+    ghost Parts = { Counted };
+
+    ghost parts = { λ r. record { stage = r.stage; count = r.count } };
+
+    ghost step = { λ r. count_step r.events.now r.room };
+
+    ghost Good = { λ _. Unit {0} };
+
+    ghost Lacks = { ⊥ };
+
+    fn line(&mut self, line: TextLine) -> Result<(), LineFault> {
+        if entry_line(self.stage, self.count, self.room, self.events, line)?.is_some() {
+            self.count += 1;
         }
-        stage = EntryStage::Rows;
+        self.stage = EntryStage::Rows;
+        Ok(())
     }
-    Ok(count)
+
+    ghost keeps = { λ _ _ _ _ _ _. tt {0} };
 }
 
 // How many claims the text has, of which there may be `room`.
-fn count_entries(text: &[u8], names: &[Name], room: usize) -> Result<usize, SheetFault>
-    ensures { Counts result (read_entries (event_names names.now) room text.now) }
+fn count_entries(text: &[u8], events: &Events<'_>, room: usize) -> Result<usize, SheetFault>
+    ensures { Counts result (read_entries events.now room text.now) }
 {
-    check_bytes(text, 65536)?;
-    if text.is_empty() {
-        return Err(SheetFault::Text(TextFault::BadSpacing { line: 0 }));
-    }
-    count_lines(text, names, room)
+    let mut counter = ClaimCounter {
+        events,
+        room,
+        stage: EntryStage::Head,
+        count: 0,
+    };
+    read_text(&mut counter, text, 65536)?;
+    Ok(counter.count)
 }
 
 // The claims of lines that are all taken, to the front of the list.
-fn fill_claims(text: &[u8], names: &[Name], claims: &mut [Claim])
-    ensures { (s : EntryParts) → walk (entry_step (event_names names.now) (length claims.old)) (ended text.now) entry_start 1 (lines text.now) ≡ Ok s → claims.new ≡ s.claims ++ drop (length s.claims) claims.old }
+fn fill_claims(text: &[u8], events: &Events<'_>, claims: &mut [Claim])
+    ensures { (s : EntryParts) → walk (entry_step events.now (length claims.old)) (ended text.now) entry_start 1 (lines text.now) ≡ Ok s → claims.new ≡ s.claims ++ drop (length s.claims) claims.old }
 {
     let room = claims.len();
-    let mut cursor = Lines::new(text);
     let mut stage = EntryStage::Head;
+    // How many claims there are so far. A zip of claims and lines would keep no count, but tells a proof nothing of what was written.
     let mut count = 0;
-    while let Some(line) = cursor.next_line() {
-        match entry_line(stage, count, room, names, line) {
+    for line in Lines::new(text) {
+        match entry_line(stage, count, room, events, line) {
             Ok(Some(claim)) => {
                 claims[count] = claim;
                 count += 1;
@@ -70,13 +87,10 @@ fn fill_claims(text: &[u8], names: &[Name], claims: &mut [Claim])
 pub fn read_entries(text: &[u8], names: &[Name], claims: &mut [Claim]) -> Result<usize, SheetFault>
     ensures { Fills result (read_entries (event_names names.now) (length claims.old) text.now) claims.old claims.new }
 {
-    match count_entries(text, names, claims.len()) {
-        Ok(count) => {
-            fill_claims(text, names, claims);
-            Ok(count)
-        }
-        Err(fault) => Err(fault),
-    }
+    let events = Events::first_eight(names);
+    let count = count_entries(text, &events, claims.len())?;
+    fill_claims(text, &events, claims);
+    Ok(count)
 }
 
 // The claims that the text has for a table's events go to the front of the list, and their number is the answer.

@@ -42,9 +42,6 @@ impl TableReader {
         ensures { contents result ≡ held (parts_of self) }
     {
         let tick = self.tick.unwrap_or(0);
-        match Table::new(tick, self.names, self.places, self.edges) {
-            Some(table) => table,
-            None => Table::blank(heap),
-        }
+        Table::new(tick, self.names, self.places, self.edges).unwrap_or_else(|| Table::blank(heap))
     }
 }

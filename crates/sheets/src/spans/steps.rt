@@ -1,19 +1,17 @@
-ghost use Rattle.sheets.specs.DistanceReading.{Spans, distance_parts_of};
-ghost use Rattle.formats.specs.DistanceText.{distance_at, distance_step, distance_step_at};
-ghost use Rattle.formats.specs.EntryLines.{event_names};
+ghost use Rattle.sheets.specs.DistanceReading.{distance_parts_of};
+ghost use Rattle.sheets.specs.Reading.{Leads};
+ghost use Rattle.formats.specs.DistanceText.{DistanceParts, distance_step, distance_step_at};
 ghost use Rattle.formats.specs.Faults.{line_in};
-ghost use Rattle.formats.specs.TableText.{head_is};
-ghost use Rattle.formats.specs.Walk.{head_step};
-ghost use Rattle.formats.specs.declared.distance.DistanceStage.TheVariants.{TickRows, LineRows};
-ghost use Rattle.std.specs.Option.{option_to_list};
-ghost use Rattle.std.specs.Prelude.{◌≡◌, [], length};
+ghost use Rattle.formats.specs.declared.distance.DistanceStage.TheVariants.{LineRows};
+ghost use Rattle.std.specs.Prelude.{◌≡◌};
 
+use crate::reading::LineReader;
+use crate::shared::{head, tick_row};
 use crate::spans::DistanceReader;
-use clocks::name::Name;
 use formats::distance::{Distance, DistanceStage};
 use formats::fault::LineFault;
-use formats::line::{SheetLimits, TextLine};
-use judges::judging::{judge_head, judge_row, judge_tick};
+use formats::line::{SheetLimits, SheetRows, TextLine};
+use judges::judging::judge_row;
 use rows::cell::RowKind;
 use rows::content::{event_in, number_in};
 
@@ -23,91 +21,60 @@ const DISTANCES: SheetLimits = SheetLimits {
     more: 0,
 };
 
-impl DistanceReader {
-    // A head, after which the rows of its sheet stand.
-    fn head(
-        &mut self,
-        line: TextLine,
-        more: usize,
-        head: &[u8],
-        next: DistanceStage,
-    ) -> Result<(), LineFault>
-        ensures { Spans result self.new (head_step more (head_is head.now line.entry.bytes.now) (line_in line.entry) (distance_at (distance_parts_of self.old) next)) }
-    {
-        match judge_head(line, more, head) {
-            Ok(()) => {
-                self.stage = next;
-                Ok(())
-            }
-            Err(fault) => Err(fault),
-        }
-    }
-
-    fn tick_count(&self) -> usize
-        ensures { result ≡ length (option_to_list self.now.tick) }
-    {
-        if self.tick.is_some() { 1 } else { 0 }
-    }
-
-    // The row of the tick, or the end of its sheet.
-    fn tick_row(&mut self, line: TextLine) -> Result<(), LineFault>
-        ensures { Spans result self.new (distance_step_at [] TickRows (distance_parts_of self.old) (line_in line.entry)) }
-    {
-        match judge_tick(line, self.tick_count(), 1) {
-            Err(fault) => Err(fault),
-            Ok(judged) => {
-                match judged {
-                    None => self.stage = DistanceStage::LineHead,
-                    Some(tick) => {
-                        self.stage = DistanceStage::TickRows;
-                        self.tick = Some(tick);
-                    }
-                }
-                Ok(())
-            }
-        }
-    }
-
+impl<'a> DistanceReader<'a> {
     // A row of a distance.
-    fn distance_row(&mut self, names: &[Name], line: TextLine) -> Result<(), LineFault>
-        ensures { Spans result self.new (distance_step_at (event_names names.now) LineRows (distance_parts_of self.old) (line_in line.entry)) }
+    fn distance_row(&mut self, line: TextLine) -> Result<(), LineFault>
+        ensures gives { Leads result (distance_parts_of self.new) (distance_step_at self.old.events LineRows (distance_parts_of self.old) (line_in line.entry)) }
+        ensures same { self.new.events ≡ self.old.events }
     {
-        let count = self.lines.len();
-        match judge_row(line, DISTANCES, count, RowKind::Distance, names) {
-            Err(fault) => Err(fault),
-            Ok(judged) => {
-                self.stage = DistanceStage::LineRows;
-                match judged {
-                    None => {}
-                    Some(row) => {
-                        let on = event_in(row.cells[0]);
-                        let since = event_in(row.cells[1]);
-                        let least = number_in(row.cells[2]) as u8;
-                        let most = number_in(row.cells[3]) as u8;
-                        self.lines.push(Distance {
-                            on,
-                            since,
-                            least,
-                            most,
-                        })?;
-                    }
-                }
-                Ok(())
+        self.stage = DistanceStage::LineRows;
+        let rows = SheetRows {
+            limits: DISTANCES,
+            count: self.lines.len(),
+        };
+        if let Some(row) = judge_row(line, rows, RowKind::Distance, &self.events)? {
+            let on = event_in(row.cells[0]);
+            let since = event_in(row.cells[1]);
+            let least = number_in(row.cells[2]) as u8;
+            let most = number_in(row.cells[3]) as u8;
+            self.lines.push(Distance {
+                on,
+                since,
+                least,
+                most,
+            })?;
+        }
+        Ok(())
+    }
+}
+
+impl<'a> LineReader for DistanceReader<'a> {
+    ghost Parts = { DistanceParts };
+
+    ghost parts = { distance_parts_of };
+
+    ghost step = { λ r. distance_step r.events };
+
+    ghost Good = { λ _. Unit {0} };
+
+    ghost Lacks = { Unit {0} };
+
+    fn line(&mut self, line: TextLine) -> Result<(), LineFault> {
+        match self.stage {
+            DistanceStage::TickHead => {
+                head(&mut self.stage, DistanceStage::TickRows, line, 1, b"tick")
             }
+            DistanceStage::TickRows => {
+                let head = DistanceStage::LineHead;
+                tick_row(&mut self.stage, &mut self.tick, head, line, 1)
+            }
+            DistanceStage::LineHead => {
+                let rows = DistanceStage::LineRows;
+                head(&mut self.stage, rows, line, 0, b"on since least most")
+            }
+            DistanceStage::LineRows => self.distance_row(line),
         }
     }
 
-    // The next line, wherever it stands.
-    pub(crate) fn line(&mut self, names: &[Name], line: TextLine) -> Result<(), LineFault>
-        ensures { Spans result self.new (distance_step (event_names names.now) (distance_parts_of self.old) (line_in line.entry)) }
-    {
-        match self.stage {
-            DistanceStage::TickHead => self.head(line, 1, b"tick", DistanceStage::TickRows),
-            DistanceStage::TickRows => self.tick_row(line),
-            DistanceStage::LineHead => {
-                self.head(line, 0, b"on since least most", DistanceStage::LineRows)
-            }
-            DistanceStage::LineRows => self.distance_row(names, line),
-        }
-    }
+    ghost keeps = { λ _ _ _ _ _ _. tt {0} };
 }

@@ -1,4 +1,5 @@
 use Rattle.std.proofs.Common.{◌≡◌, length, Some, None, Ok, vec_items, sym, ap, ◌∙◌}
+use Rattle.std.proofs.lemmas.Result.{err_from_is_err_and}
 use Rattle.formats.specs.Faults.{line_in, line_number}
 use Rattle.sheets.specs.Reader.{parts_of}
 use Rattle.formats.specs.declared.stage.Stage.TheVariants.{PlaceRows}
@@ -7,23 +8,24 @@ use Rattle.formats.proofs.ReaderSteps.{judged-as, place-fails, place-ends, place
 use Rattle.sheets.proofs.reader.TableReader.place_row.Goals as goal
 use Rattle.sheets.proofs.reader.TableReader.place_row.Goals.{After-judge_row}
 
-counted : (c : After-judge_row) → c.len-count.result ≡ length (vec_items c.args.self.now.places)
-counted c = c.len-count.ensures ∙ c.args.self.now.places.ok.0
+counted : (c : After-judge_row) → c.len.result ≡ length (vec_items c.args.self.now.places)
+counted c = c.len.ensures ∙ c.args.self.now.places.ok.0
 
-pub returns-in-Err : goal.returns-in-Err
-returns-in-Err c =
-    fails-so _ _ (line_number c.in-Err.fault) c.in-Err.ensures.row
-    (place-fails (parts_of c.args.self.now) (line_in c.args.line) c.len-count.result (counted (goal.at.returns-in-Err c).After-judge_row))
+pub returns-in_err-judge_row : goal.returns-in_err-judge_row
+returns-in_err-judge_row c =
+    let p = err_from_is_err_and c.from_residual.result c.from_residual.ensures.1 in
+    rw (p.1, p.2) (fails-so _ _ (line_number c.in_err-judge_row.field-0.0) c.in_err-judge_row.ensures.row
+    (place-fails (parts_of c.args.self.now) (line_in c.args.line) c.len.result (counted (goal.at.returns-in_err-judge_row c).After-judge_row)))
 
 pub returns-in-None : goal.returns-in-None
 returns-in-None c =
-    place-ends (parts_of c.args.self.now) (line_in c.args.line) c.len-count.result (counted (goal.at.returns-in-None c).After-judge_row)
-    (judged-as _ c.in-Ok.judged None c.in-Ok.ensures.row c.in-None.is)
+    place-ends (parts_of c.args.self.now) (line_in c.args.line) c.len.result (counted (goal.at.returns-in-None c).After-judge_row)
+    (judged-as _ c.in_ok-judge_row.field-0 None c.in_ok-judge_row.ensures.row c.in-None.is)
 
 pub returns-in_ok-push-in-Some : goal.returns-in_ok-push-in-Some
 returns-in_ok-push-in-Some c =
     let s = parts_of c.args.self.now in
-    place_read s (line_in c.args.line) c.len-count.result (counted (goal.at.returns-in_ok-push-in-Some c).After-judge_row)
+    place_read s (line_in c.args.line) c.len.result (counted (goal.at.returns-in_ok-push-in-Some c).After-judge_row)
     c.in-Some.row _ c.flag_in-start.result c.flag_in-accepting.result
-    (judged-as _ c.in-Ok.judged (Some c.in-Some.row) c.in-Ok.ensures.row c.in-Some.is) c.flag_in-start.ensures c.flag_in-accepting.ensures
+    (judged-as _ c.in_ok-judge_row.field-0 (Some c.in-Some.row) c.in_ok-judge_row.ensures.row c.in-Some.is) c.flag_in-start.ensures c.flag_in-accepting.ensures
     ∙ ap (λ ps. Ok (record { stage = PlaceRows; ticks = s.ticks; places = ps; names = s.names; edges = s.edges })) (sym c.in_ok-push-in-Some.ensures.items)
