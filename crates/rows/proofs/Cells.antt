@@ -17,7 +17,8 @@ use Rattle.rows.specs.declared.cell.Cell.TheVariants.{Number, Absent, Flag, Even
 use Rattle.rows.specs.declared.cell.Column.{Column}
 use Rattle.rows.specs.declared.cell.Column.TheVariants.{Within, NotBelow, YesOrNo, EventName, Limit, NumberOrNone}
 use Rattle.rows.specs.declared.cell.WordFault.TheVariants.{Misfit, OutOfRange}
-use Rattle.rows.specs.Rows.{numbered, ranged, bounded, named, cell_of, bound_word, cell_word, suits}
+use Rattle.rows.specs.Rows.{numbered, ranged, bounded, named, cell_of, cell_word, suits}
+use Rattle.meaning.specs.Writing.{bound_word}
 use Rattle.rows.proofs.Outcomes.{never-ok, same-from-ok, ok-under}
 use Rattle.rows.proofs.Sought.{same_word, other_word, name-found, found-by-name}
 

@@ -16,7 +16,8 @@ use Rattle.rows.specs.declared.cell.Cell.{Cell}
 use Rattle.rows.specs.declared.cell.Cell.TheVariants.{Number, Absent, Flag, Event, Bounded}
 use Rattle.rows.specs.declared.cell.Column.{Column}
 use Rattle.rows.specs.declared.cell.Column.TheVariants.{Within, NotBelow, YesOrNo, EventName, Limit, NumberOrNone}
-use Rattle.rows.specs.Rows.{bound_word, cell_word, suits}
+use Rattle.meaning.specs.Writing.{bound_word}
+use Rattle.rows.specs.Rows.{cell_word, suits}
 
 -- ---- bytes
 

@@ -3,6 +3,7 @@ use Rattle.std.specs.Prelude.{ℕ, ◌+◌, ◌-◌, min, Bool, true, false, con
 use Rattle.std.specs.Str.{bytes_eq}
 use Rattle.meaning.specs.declared.values.Bound.{Bound}
 use Rattle.meaning.specs.declared.values.Bound.TheVariants.{Any, Never, AtLeast, Between}
+use Rattle.meaning.specs.Writing.{bound_word}
 use Rattle.texts.specs.Numbers.{number, read_on}
 use Rattle.texts.specs.Lines.{words, unwords, no_space, end_from}
 use Rattle.texts.specs.Bounds.{bound_of}
@@ -130,12 +131,6 @@ row_result (Ok cells) = Ok (record { cells = padded cells })
 row_result (Err e) = Err e
 
 -- ---- how it is written
-
-abbrev pub bound_word : Bound → List ℕ
-bound_word Any = codes "any"
-bound_word Never = codes "none"
-bound_word (AtLeast a) = decimal a ++ codes ".."
-bound_word (Between a b) = decimal a ++ (codes ".." ++ decimal b)
 
 abbrev pub cell_word : List (List ℕ) → Cell → List ℕ
 cell_word names (Number n) = decimal n
