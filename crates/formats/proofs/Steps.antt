@@ -264,24 +264,6 @@ head-fails {X} {S} more wrong l x s n h = test (misspaced l) 3 _ _ (test (lacks_
     test true k d d' on e = let same : k ≡ n = cc in ap Err same
     test false k d d' on e = on e
 
--- ---- at its line
-
-pub fails-at : {S : Type 0} (k n : ℕ) (d : Result S ℕ) (o : Option Refusal) → d ≡ Err n → o ≡ Some (record { number = n; line = k }) → Fails (at_line k d) o
-fails-at k n d o h e = subst (Fails (at_line k d)) (sym e) (ap (at_line k) h)
-
--- what fails with every number that another fails with, fails at the line as that does
-pub fails-as : {X S : Type 0} (k : ℕ) (d : Result X ℕ) (d' : Result S ℕ) → ((n : ℕ) → d ≡ Err n → d' ≡ Err n) → (o : Option Refusal) → Fails (at_line k d) o → Fails (at_line k d') o
-fails-as k d d' on None h = tt
-fails-as k (Ok x) d' on (Some r) h = absurd (let z : ◌≡◌ {A = ℕ} 0 1 = cc in omega arith)
-fails-as k (Err n) d' on (Some r) h = ap (at_line k) (on n refl) ∙ (let same : record { number = n; line = k } ≡ r = cc in ap Err same)
-
-pub taken_at : {S : Type 0} (k : ℕ) (d : Result S ℕ) (s : S) → at_line k d ≡ Ok s → d ≡ Ok s
-taken_at k (Ok x) s h = h'
-  where
-    h' : ◌≡◌ {A = Result _ ℕ} (Ok x) (Ok s)
-    h' = let same : x ≡ s = cc in ap Ok same
-taken_at k (Err n) s h = never-ok _ s h
-
 -- a line that fails is where the walk fails
 pub fails-through : {S : Type 0} (step : S → Line → Result S ℕ) (whole : Bool) (s : S) (k : ℕ) (l : List ℕ) (ls : List (List ℕ)) (d : Result S Refusal) (o : Option Refusal)
     → walk step whole s k (l ∷ ls) ≡ d → (line : Line) → line ≡ line_here whole l ls → Fails (at_line k (step s line)) o → Fails d o
@@ -311,11 +293,6 @@ fails-so d d' o h on = fails-said d' o (says-so d d' o h on)
 pub agrees-after : {X S : Type 0} (f : X → S) (r : Result X LineFault) (d : Result X ℕ) → Says r d → Agrees f r (and_then d (λ x. Ok (f x)))
 agrees-after f (Ok x) d h = ap (λ e. and_then e (λ y. Ok (f y))) h
 agrees-after f (Err e) d h = fails-so d (and_then d (λ x. Ok (f x))) (line_number e) h (λ n g. ap (λ y. and_then y (λ x. Ok (f x))) g)
-
--- a fault of a line as one of the text in which it stands
-pub fails-at-line : {S : Type 0} (k : ℕ) (d : Result S ℕ) (o : Option ℕ) (q : Option Refusal) → q ≡ option_map (λ n. record { number = n; line = k }) o → Fails d o → Fails (at_line k d) q
-fails-at-line k d None q is h = subst (Fails (at_line k d)) (sym is) tt
-fails-at-line k d (Some n) q is h = subst (Fails (at_line k d)) (sym is) (ap (at_line k) h)
 
 -- ---- a step that goes by what another gives
 

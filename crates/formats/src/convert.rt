@@ -22,7 +22,7 @@ impl<T: Drop> From<AllocFailed<T>> for LineFault {
     }
 }
 
-// The same as a fault of a text.
+// The same as a fault of a text. One impl for both types would be a macro's, and no macro here writes an impl.
 impl<T: Drop> From<AllocFailed<T>> for SheetFault {
     ghost from_gives = { λ _ r. r ≡ sheet.Memory };
 

@@ -5,6 +5,7 @@ ghost use Rattle.std.specs.Prelude.{◌≡◌};
 use texts::fault::TextFault;
 
 // The number of a refusal, and the line that it names; line 0 is none.
+// These are the numbers of docs/REFUSALS.md, and all that is told outside; the code itself goes by the enums below.
 #[derive(Clone, Copy, Drop, PartialEq, Eq, Debug)]
 pub struct Refusal {
     pub number: u8,

@@ -7,12 +7,6 @@ use Rattle.tables.specs.Lawful.{different}
 use Rattle.rows.proofs.Outcomes.{never-ok, same-from-ok}
 use Rattle.formats.specs.Faults.{Fails}
 use Rattle.judges.specs.Heads.{name_list, judged_names}
-use Rattle.formats.specs.Walk.{Line, misspaced, head_step}
-use Rattle.formats.proofs.Written.{last-sheet}
-
--- a head that is judged by what is wrong with it
-pub head-judged : {S : Type 0} (wrong : ℕ) (l : Line) (next : S) → misspaced l ≡ false → head_step 0 wrong l next ≡ cond (eqb wrong 0) (Ok next) (Err wrong)
-head-judged wrong l next fine = λ i. cond (fine i) (Err 3) (cond (last-sheet l i) (Err 4) (cond (eqb wrong 0) (Ok next) (Err wrong)))
 
 -- names that are refused, are too few or too many, or are taken
 list_of : (ws names : List (List ℕ)) → name_list ws ≡ Ok names → ((every lawful_name ws && different ws) ≡ true) × (ws ≡ names)

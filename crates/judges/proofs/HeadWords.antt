@@ -1,5 +1,5 @@
 -- The head of the edges is its own three words, and a space before each name. Assumes nothing.
-use Rattle.std.proofs.Common.{◌≡◌, ℕ, Bool, true, false, cond, ◌&&◌, eqb, List, [], ◌∷◌, ◌++◌, length, take, drop, Ok, Err, codes, sym, refl, ap, ◌∙◌, ⊎_elim, arith}
+use Rattle.std.proofs.Common.{◌≡◌, ℕ, true, false, cond, ◌&&◌, eqb, List, [], ◌∷◌, ◌++◌, length, take, drop, Ok, Err, codes, sym, refl, ap, ◌∙◌, ⊎_elim}
 use Rattle.std.proofs.lemmas.Bool.{and_parts, cases_Bool, both_ways, cond-false}
 use Rattle.std.proofs.lemmas.List.{take-append-drop}
 use Rattle.std.proofs.lemmas.List.Splits.{join_with_byte-slice_split}
@@ -53,24 +53,6 @@ refused ws h = ap (λ n. cond (eqb n 0) (Ok (drop 3 ws)) (Err n)) h
 -- another head
 pub other-head : (line : List ℕ) → bytes_eq (take 10 line) (codes "from to on") ≡ false → edge_names (words line) ≡ Err 4
 other-head line h = refused (words line) (other-words (words line) (ap (λ l. bytes_eq (take 10 l) (codes "from to on")) (joined line) ∙ h))
-
--- a third word that goes on after `on`
-longer : (b : ℕ) (ws : List (List ℕ)) → edge_head_wrong (codes "from" ∷ codes "to" ∷ onto 111 (onto 110 (onto b ws))) ≡ 4
-longer b [] = refl
-longer b (w ∷ ws) = refl
-
-pub longer-word : (line rest : List ℕ) → line ≡ codes "from to on" ++ rest → bytes_eq (take 1 rest) (codes " ") ≡ false → (length rest ≡ 0 → ⊥) → edge_names (words line) ≡ Err 4
-longer-word line [] e other some = absurd (some refl)
-longer-word line (b ∷ rest) e other some = ap (λ l. edge_names (words l)) e ∙ refused (words (codes "from to on" ++ (b ∷ rest))) (go (eqb b 32) other)
-  where
-    go : (c : Bool) → (c && true) ≡ false → edge_head_wrong (codes "from" ∷ codes "to" ∷ onto 111 (onto 110 (cond c ([] ∷ words rest) (onto b (words rest))))) ≡ 4
-    go true h = absurd (let z : ◌≡◌ {A = Bool} true false = h in cc)
-    go false h = longer b (words rest)
-
--- no name
-pub no-name : (line rest : List ℕ) → line ≡ codes "from to on" ++ rest → length rest ≡ 0 → edge_names (words line) ≡ Err 7
-no-name line [] e none = ap (λ l. edge_names (words l)) e
-no-name line (b ∷ rest) e none = absurd (omega (arith, none))
 
 -- names
 stripped : (s p rest : List ℕ) → bytes_eq (take (length p) s) p ≡ true → rest ≡ drop (length p) s → s ≡ p ++ rest

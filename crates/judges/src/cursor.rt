@@ -6,6 +6,7 @@ use formats::line::TextLine;
 use texts::lines::line_end;
 
 // The lines of a text in turn, with the number of the next one. Past the largest `u32` the number stays.
+// The text stays whole beside the place: whether its last line is ended is a fact of the whole text, and of no rest of it.
 #[derive(Clone, Copy, Drop)]
 pub struct Lines<'a> {
     text: &'a [u8],
