@@ -10,7 +10,9 @@ mod table_lines;
 mod table_texts;
 mod trying;
 
-fn run(rt: &HostRuntime) -> anyhow::Result<()> {
+use std::io;
+
+fn run(rt: &(impl Print + AllocGlobal)) -> io::Result<()> {
     trying::tell_bytes(rt)?;
     trying::try_texts(rt, table_lines::TRIALS, &[])?;
     trying::try_texts(rt, table_texts::TRIALS, table_texts::LONG)?;
@@ -19,6 +21,6 @@ fn run(rt: &HostRuntime) -> anyhow::Result<()> {
     showing::show_taken(rt)
 }
 
-fn main(rt: HostRuntime) -> anyhow::Result<()> {
+fn main(rt: HostRuntime) -> io::Result<()> {
     run(&rt)
 }
