@@ -8,7 +8,7 @@ use Rattle.meaning.specs.declared.values.Pair.{Pair}
 use Rattle.meaning.specs.declared.values.Bound.{Bound}
 use Rattle.meaning.specs.declared.values.Bound.TheVariants.{Any, Never, AtLeast, Between}
 use Rattle.meaning.specs.declared.values.Edge.{Edge}
-use Rattle.meaning.specs.Stepping.{Cells, Move, never, aged, capped, advanced, restarted, moves, holds, holds_all, in_set, targets, ends, top, top_of_bounds, cap_of}
+use Rattle.meaning.specs.Stepping.{Cells, Move, aged, capped, advanced, restarted, moves, holds, holds_all, in_set, targets, ends, top, top_of_bounds, cap_of}
 
 abbrev limited : ℕ → Option ℕ → Option ℕ
 limited c v = option_map (λ x. min x (c + 1)) v
@@ -49,9 +49,6 @@ moves-capped c n cells (p ∷ w) =
     ap (restarted n p.event) here ∙ restarted-capped n p.event c (aged p.wait cells) in
     let rest = ap (λ x. moves (advanced c) n x w) later ∙ moves-capped c n (restarted n p.event (aged p.wait cells)) w in
     λ i. record { event = p.event; reading = here i } ∷ rest i
-
-never-capped : (c : ℕ) → capped c never ≡ never
-never-capped c = refl
 
 -- A bound whose numbers are at most the cap does not see the capping.
 pub holds-capped : (c : ℕ) (b : Bound) (v : Option ℕ) → top b ≤ c → holds b (option_map (λ x. min x (c + 1)) v) ≡ holds b v

@@ -3,3 +3,4 @@ pub mod Words
 pub mod Tables
 pub mod Stepping
 pub mod Examples
+pub mod Writing

@@ -1,27 +1,18 @@
--- The words of a line, counted and tested byte by byte. Assumes nothing.
-use Rattle.std.proofs.Common.{◌≡◌, ℕ, ◌+◌, ◌<◌, ◌≤◌, Bool, true, false, eqb, List, length, get_or, take, drop, sym, ap, ◌∙◌, arith}
-use Rattle.std.proofs.lemmas.List.{take_all}
-use Rattle.std.proofs.lemmas.List.Sums.{count_by_more_yes, count_by_more_no}
-use Rattle.std.proofs.lemmas.Bool.{eq-eqb, ne_eqb}
+-- The words of a line, counted and tested. Assumes nothing.
+use Rattle.std.proofs.Common.{◌≡◌, ℕ, ◌+◌, false, not, ◌||◌, ◌==◌, eqb, List, [], ◌∷◌, length, count_by, refl, ap, ◌∙◌, arith}
+use Rattle.std.proofs.lemmas.Bool.Decides.{nat_tests}
+use Rattle.std.proofs.lemmas.List.Splits.{length-slice_split}
+use Rattle.std.specs.List.{list_any}
 use Rattle.texts.specs.Numbers.{every}
-use Rattle.texts.specs.Lines.{words, filled, spaced}
-use Rattle.texts.proofs.Pieces.{spaces, length-words}
+use Rattle.texts.specs.Lines.{words, filled}
 
--- ---- how many words
+-- There is a word more than spaces.
+pub length_words : (l : List ℕ) → length (words l) ≡ count_by (λ b. b == 32) l + 1
+length_words l = length-slice_split (λ b. b == 32) l
 
-module _ (l : List ℕ) (i n : ℕ) (so : n ≡ 1 + spaces (take i l)) where
-  pub count-at-space : i < length l → get_or l i 0 ≡ 32 → n + 1 ≡ 1 + spaces (take (i + 1) l)
-  count-at-space in' is = omega (arith, so, count_by_more_yes (λ b. eqb b 32) l i 0 in' (eq-eqb _ 32 is))
-
-  pub count-in-word : i < length l → (get_or l i 0 ≡ 32 → ⊥) → n ≡ 1 + spaces (take (i + 1) l)
-  count-in-word in' other = omega (arith, so, count_by_more_no (λ b. eqb b 32) l i 0 in' (ne_eqb _ 32 other))
-
-  pub count-all : length l ≤ i → n ≡ length (words l)
-  count-all past = so ∙ ap (λ s. 1 + spaces s) (take_all i l past) ∙ sym (length-words l)
-
--- ---- no word is empty
-
--- The rest of a line is well spaced, after a word that is empty so far, or is not.
-abbrev pub spaced_on : Bool → List ℕ → Bool
-spaced_on true l = spaced l
-spaced_on false l = every filled (drop 1 (words l))
+pub some_empty : (ws : List (List ℕ)) → list_any (λ w. length w == 0) ws ≡ not (every filled ws)
+some_empty [] = refl
+some_empty ([] ∷ ws) = refl
+some_empty ((b ∷ w) ∷ ws) =
+    let no' : eqb (length (b ∷ w)) 0 ≡ false = grind (arith, nat_tests) in
+    ap (λ t. t || list_any (λ v. length v == 0) ws) no' ∙ some_empty ws

@@ -1,24 +1,12 @@
--- The first byte that is not allowed, found byte by byte while line ends are counted. Assumes nothing.
-use Rattle.std.proofs.Common.{◌≡◌, ℕ, suc, ◌+◌, ◌<◌, Bool, true, false, cond, ◌&&◌, eqb, List, [], ◌∷◌, length, take, Some, None, count_by, Option, sym, refl, ap, ◌∙◌, ⊎_elim, arith}
+-- The first byte that is not allowed, by its place and the line ends before it. Assumes nothing.
+use Rattle.std.proofs.Common.{◌≡◌, ℕ, suc, ◌+◌, Bool, true, false, cond, not, ◌==◌, eqb, ltb, List, [], ◌∷◌, length, take, Some, None, Option, count_by, position, refl, sym, ap, ◌∙◌, arith, one-add}
 use Rattle.std.proofs.lemmas.List.Sums.{sum_by-cons}
-use Rattle.std.proofs.lemmas.Bool.{and_parts, cases_Bool}
+use Rattle.std.proofs.lemmas.Bool.{and_parts, lt-ltb, cond-true}
+use Rattle.std.proofs.lemmas.Bool.Decides.{nat_tests}
 use Rattle.std.specs.Option.{option_map}
-use Rattle.std.specs.List.{prefix_len}
+use Rattle.std.specs.List.{position_or_len}
 use Rattle.texts.specs.Numbers.{every}
 use Rattle.texts.specs.Lines.{allowed, bad_byte}
-use Rattle.texts.proofs.Lists.{leading-yes, leading-no, never-some}
-
--- the lines of a part are counted from the lines before it
-abbrev pub after : ℕ → Option ℕ → Option ℕ
-after n o = option_map (λ line. n + line) o
-
--- ---- the same in other words: all bytes are allowed, or the first that is not has so many line ends before it
-
-abbrev pub ends : List ℕ → ℕ
-ends t = count_by (λ b. eqb b 10) t
-
-ends_more : (b : ℕ) (t : List ℕ) → ends (b ∷ t) ≡ cond (eqb b 10) 1 0 + ends t
-ends_more b t = sum_by-cons (λ x. cond (eqb x 10) 1 0) b t
 
 pub bad-none : (t : List ℕ) → every allowed t ≡ true → bad_byte t ≡ None
 bad-none [] all = refl
@@ -30,32 +18,45 @@ bad-none (b ∷ t) all =
     same true = refl
     same false = refl
 
-never-mapped : (o : Option ℕ) → option_map suc o ≡ None → o ≡ None
-never-mapped None e = refl
-never-mapped (Some n) e = never-some (suc n) (sym e)
-
-allowed-here : (t : List ℕ) (ok end : Bool) → (bad_byte t ≡ None → every allowed t ≡ true)
-    → cond ok (cond end (option_map suc (bad_byte t)) (bad_byte t)) (Some 1) ≡ None → (ok && every allowed t) ≡ true
-allowed-here t true true rest none = rest (never-mapped (bad_byte t) none)
-allowed-here t true false rest none = rest none
-allowed-here t false end rest none = never-some 1 (sym none)
-
-pub allowed-from-none : (t : List ℕ) → bad_byte t ≡ None → every allowed t ≡ true
-allowed-from-none [] none = refl
-allowed-from-none (b ∷ t) none = allowed-here t (allowed b) (eqb b 10) (λ e. allowed-from-none t e) none
-
-pub bad-some : (t : List ℕ) → prefix_len allowed t < length t → bad_byte t ≡ Some (1 + ends (take (prefix_len allowed t) t))
-bad-some [] h = absurd (omega arith)
-bad-some (b ∷ t) h = ⊎_elim
-    (λ fine.
-    let later = leading-yes allowed b t fine in
-    let rest : bad_byte t ≡ Some (1 + ends (take (prefix_len allowed t) t)) = bad-some t (omega (arith, later)) in
-    (λ i. cond (fine i) (cond (eqb b 10) (option_map suc (rest i)) (rest i)) (Some 1))
-    ∙ counted (eqb b 10) (ends (take (prefix_len allowed t) t))
-    ∙ ap (λ n. Some (1 + n)) (sym (ap (λ n. ends (take n (b ∷ t))) later ∙ ends_more b (take (prefix_len allowed t) t))))
-    (λ bad. ap (λ a. cond a (cond (eqb b 10) (option_map suc (bad_byte t)) (bad_byte t)) (Some 1)) bad ∙ ap (λ n. Some (1 + ends (take n (b ∷ t)))) (sym (leading-no allowed b t bad)))
-    (cases_Bool (allowed b))
+-- `position` by the first element
+position-first : {X : Type 0} (p : X → Bool) (x : X) (xs : List X) → position p (x ∷ xs) ≡ cond (p x) (Some 0) (option_map suc (position p xs))
+position-first p x xs = by (p x) (position_or_len p xs) (length xs)
   where
-    counted : (e : Bool) (n : ℕ) → cond e (option_map suc (Some (1 + n))) (Some (1 + n)) ≡ Some (1 + (cond e 1 0 + n))
-    counted true n = let x : suc (1 + n) ≡ 1 + (1 + n) = omega arith in ap Some x
-    counted false n = let x : 1 + n ≡ 1 + (0 + n) = omega arith in ap Some x
+    later : (t : Bool) (n : ℕ) → cond t (Some (suc n)) None ≡ option_map suc (cond t (Some n) None)
+    later true n = refl
+    later false n = refl
+
+    by : (b : Bool) (n l : ℕ) → cond (ltb (cond (not b) (1 + n) 0) (suc l)) (Some (cond (not b) (1 + n) 0)) None ≡ cond b (Some 0) (option_map suc (cond (ltb n l) (Some n) None))
+    by true n l = cond-true _ _ _ (lt-ltb 0 (suc l) (omega arith))
+    by false n l =
+        let same : ltb (1 + n) (suc l) ≡ ltb n l = grind (arith, nat_tests) in
+        (λ i. cond (same i) (Some (one-add n i)) None) ∙ later (ltb n l) n
+
+-- the line of the byte at a place
+abbrev line : List ℕ → ℕ → ℕ
+line t at = count_by (λ b. b == 10) (take at t) + 1
+
+pub bad_byte_at : (t : List ℕ) → bad_byte t ≡ option_map (λ at. count_by (λ b. b == 10) (take at t) + 1) (position (λ b. not (allowed b)) t)
+bad_byte_at [] = refl
+bad_byte_at (b ∷ t) =
+    let rest = bad_byte_at t in
+    (λ i. cond (allowed b) (cond (eqb b 10) (option_map suc (rest i)) (rest i)) (Some 1))
+    ∙ by (allowed b) (position (λ c. not (allowed c)) t)
+    ∙ ap (option_map (line (b ∷ t))) (sym (position-first (λ c. not (allowed c)) b t))
+  where
+    more : (at : ℕ) → line (b ∷ t) (suc at) ≡ cond (eqb b 10) 1 0 + line t at
+    more at = omega (arith, sum_by-cons (λ c. cond (eqb c 10) 1 0) b (take at t))
+
+    counted : (e : Bool) (n : ℕ) → cond e (Some (suc n)) (Some n) ≡ Some (cond e 1 0 + n)
+    counted true n = let x : suc n ≡ 1 + n = omega arith in ap Some x
+    counted false n = let x : n ≡ 0 + n = omega arith in ap Some x
+
+    none : (e : Bool) → cond {A = Option ℕ} e None None ≡ None
+    none true = refl
+    none false = refl
+
+    by : (a : Bool) (o : Option ℕ) → cond a (cond (eqb b 10) (option_map suc (option_map (line t) o)) (option_map (line t) o)) (Some 1)
+        ≡ option_map (line (b ∷ t)) (cond (not a) (Some 0) (option_map suc o))
+    by true None = none (eqb b 10)
+    by true (Some at) = counted (eqb b 10) (line t at) ∙ ap Some (sym (more at))
+    by false o = refl

@@ -1,9 +1,8 @@
 pub mod Lists
 pub mod Pieces
 pub mod Values
-pub mod Ends
 pub mod Sought
+pub mod Ends
 pub mod Faulty
 pub mod Counting
 pub mod Shapes
-pub mod Walks

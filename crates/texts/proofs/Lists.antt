@@ -1,7 +1,6 @@
 -- Steps of `every` and `prefix_len` along a list, and the cases of an `Option`. Assumes nothing.
-use Rattle.std.proofs.Common.{◌≡◌, ℕ, zero, suc, ◌+◌, ◌<◌, ◌≤◌, Bool, true, false, cond, ◌&&◌, List, [], ◌∷◌, length, get_or, drop, Some, None, sym, refl, ap, ◌∙◌, ⊎_elim, one-add, arith}
+use Rattle.std.proofs.Common.{◌≡◌, ℕ, suc, ◌+◌, ◌<◌, ◌≤◌, Bool, true, false, cond, ◌&&◌, List, ◌∷◌, length, get_or, drop, Some, None, sym, refl, ap, ◌∙◌, one-add, arith}
 use Rattle.std.proofs.lemmas.List.{at_drop_more, at_drop_all}
-use Rattle.std.proofs.lemmas.Bool.{cases_Bool}
 use Rattle.std.specs.List.{prefix_len}
 use Rattle.texts.specs.Numbers.{every}
 
@@ -30,15 +29,6 @@ module _ {X : Type 0} (f : X → Bool) (xs : List X) (i : ℕ) (r : Bool) where
 
   pub every-all : length xs ≤ i → every f (drop i xs) ≡ r → true ≡ r
   every-all past so = sym (at_drop_all (every f) xs i past) ∙ so
-
--- a front of a run that passes the test, and the rest of the run
-pub leading-rest : {X : Type 0} (f : X → Bool) (xs : List X) (m : ℕ) → m ≤ prefix_len f xs → m + prefix_len f (drop m xs) ≡ prefix_len f xs
-leading-rest f xs zero h = omega arith
-leading-rest f [] (suc m) h = absurd (omega arith)
-leading-rest f (x ∷ xs) (suc m) h = ⊎_elim
-    (λ passes. let one = leading-yes f x xs passes in omega (arith, one, leading-rest f xs m (omega (arith, one))))
-    (λ fails. absurd (omega (arith, leading-no f x xs fails)))
-    (cases_Bool (f x))
 
 pub never-some : {X Y : Type 0} (x : X) → None ≡ Some x → Y
 never-some x e = absurd (let z : ◌≡◌ {A = ℕ} 0 1 = cc in omega arith)

@@ -1,7 +1,6 @@
 -- The lines of a text and the words of a line: they join to what they came from, and they come one by one from the front. Assumes nothing.
-use Rattle.std.proofs.Common.{◌≡◌, ℕ, suc, ◌+◌, ◌<◌, Bool, true, false, cond, not, eqb, ltb, List, [], ◌∷◌, ◌++◌, length, take, drop, count_by, sym, refl, ap, ◌∙◌, ⊎_elim, arith}
+use Rattle.std.proofs.Common.{◌≡◌, ℕ, suc, ◌+◌, ◌<◌, Bool, true, false, cond, not, eqb, ltb, List, [], ◌∷◌, ◌++◌, length, take, drop, sym, refl, ap, ◌∙◌, ⊎_elim, arith}
 use Rattle.std.proofs.lemmas.List.{append-nil}
-use Rattle.std.proofs.lemmas.List.Sums.{sum_by-cons}
 use Rattle.std.proofs.lemmas.Bool.{eqb-true, lt-ltb, and_parts, not-true, cases_Bool, cond-true, cond-false, both_ways}
 use Rattle.std.proofs.lemmas.Bool.Decides.{nat_tests}
 use Rattle.std.specs.List.{prefix_len}
@@ -161,25 +160,4 @@ words_step (b ∷ l) = ⊎_elim
     (λ h. words-at-space b l h ∙ ap (λ ws. [] ∷ ws) (sym (cond-true _ _ _ (lt-ltb 0 (suc (length l)) (omega arith))))
     ∙ ap (λ n. words_by n (b ∷ l)) (sym (before_here 32 b l h)))
     (λ h. words-in-word b l h ∙ ap (onto b) (words_step l) ∙ words_by-more (before 32 l) b l ∙ ap (λ n. words_by n (b ∷ l)) (sym (before-later 32 b l h)))
-    (cases_Bool (eqb b 32))
-
-length-onto : (b : ℕ) (ls : List (List ℕ)) → 0 < length ls → length (onto b ls) ≡ length ls
-length-onto b [] h = absurd (omega arith)
-length-onto b (l ∷ ls) h = refl
-
-abbrev pub spaces : List ℕ → ℕ
-spaces l = count_by (λ b. eqb b 32) l
-
-spaces-more : (b : ℕ) (l : List ℕ) → spaces (b ∷ l) ≡ cond (eqb b 32) 1 0 + spaces l
-spaces-more b l = sum_by-cons (λ x. cond (eqb x 32) 1 0) b l
-
--- There is a word more than spaces.
-pub length-words : (l : List ℕ) → length (words l) ≡ 1 + spaces l
-length-words [] = refl
-length-words (b ∷ l) =
-    let rest = length-words l in
-    ⊎_elim
-    (λ h. let one = spaces-more b l ∙ ap (λ t. cond t 1 0 + spaces l) h in let long = ap length (words-at-space b l h) in omega (arith, rest, one, long))
-    (λ h. let same = spaces-more b l ∙ ap (λ t. cond t 1 0 + spaces l) h in
-    let long = ap length (words-in-word b l h) ∙ length-onto b (words l) (some_word l) in omega (arith, rest, same, long))
     (cases_Bool (eqb b 32))

@@ -1,6 +1,6 @@
 -- How a text falls into lines and a line into words, and which bytes a text may have. Byte 10 ends a line, byte 32 parts two words.
 use Rattle.std.specs.Prelude.{ℕ, zero, suc, ◌+◌, min, Bool, true, false, cond, not, ◌&&◌, ◌||◌, List, [], ◌∷◌, ◌++◌, length, drop, Some, None, Option, ◌==◌, nat_le}
-use Rattle.std.specs.List.{slice_get, prefix_len}
+use Rattle.std.specs.List.{slice_get, prefix_len, onto_first, slice_split}
 use Rattle.std.specs.Option.{option_map}
 use Rattle.texts.specs.declared.lines.Run.{Run}
 use Rattle.texts.specs.declared.lines.Run.TheVariants.{InLine, InWord, NoSpace}
@@ -25,8 +25,7 @@ bad_byte (b ∷ t) = cond (allowed b) (cond (b == 10) (option_map suc (bad_byte 
 
 -- a byte in front of the first piece
 abbrev pub onto : ℕ → List (List ℕ) → List (List ℕ)
-onto b [] = (b ∷ []) ∷ []
-onto b (l ∷ ls) = (b ∷ l) ∷ ls
+onto b ls = onto_first b ls
 
 -- The lines of a text. Each ends with a byte 10, which is not part of it; only the last may go without.
 abbrev pub lines : List ℕ → List (List ℕ)
@@ -35,8 +34,7 @@ lines (b ∷ t) = cond (b == 10) ([] ∷ lines t) (onto b (lines t))
 
 -- The words of a line, which are what stands between its spaces. Two spaces in a row have an empty word between them.
 abbrev pub words : List ℕ → List (List ℕ)
-words [] = [] ∷ []
-words (b ∷ l) = cond (b == 32) ([] ∷ words l) (onto b (words l))
+words l = slice_split (λ b. b == 32) l
 
 -- Line n, from 1.
 abbrev pub line_at : ℕ → List ℕ → Option (List ℕ)
@@ -51,6 +49,12 @@ ended_after b (c ∷ t) = ended_after c t
 -- Every line is ended: the text is empty, or its last byte is 10.
 abbrev pub ended : List ℕ → Bool
 ended t = ended_after 10 t
+
+-- a text without the byte 10 at its end, if one is there
+abbrev pub unended : List ℕ → List ℕ
+unended [] = []
+unended (b ∷ []) = cond (b == 10) [] (b ∷ [])
+unended (b ∷ (c ∷ t)) = b ∷ unended (c ∷ t)
 
 abbrev pub filled : List ℕ → Bool
 filled [] = false

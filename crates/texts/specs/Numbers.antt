@@ -1,9 +1,10 @@
 -- Numbers as a text writes them: one to ten digits, of which the first is 0 only where it is the only one.
-use Rattle.std.specs.Prelude.{ℕ, ◌+◌, ◌-◌, ◌*◌, Bool, true, cond, not, ◌&&◌, List, [], ◌∷◌, length, Some, None, Option, ◌==◌, nat_le, slice_index}
+use Rattle.std.specs.Prelude.{ℕ, ◌+◌, ◌-◌, ◌*◌, Bool, cond, not, ◌&&◌, List, [], ◌∷◌, length, Some, None, Option, ◌==◌, nat_le, slice_index}
+use Rattle.std.specs.List.{list_all}
 
+-- Each element passes the test.
 abbrev pub every : {X : Type 0} → (X → Bool) → List X → Bool
-every f [] = true
-every f (x ∷ xs) = f x && every f xs
+every f xs = list_all f xs
 
 -- 0 to 9
 abbrev pub digit : ℕ → Bool

@@ -1,7 +1,8 @@
 ghost use Rattle.texts.specs.Faults.{bytes_fault};
 ghost use Rattle.texts.specs.Lines.{allowed, bad_byte};
 ghost use Rattle.std.specs.Result.{result_err};
-ghost use Rattle.std.specs.Prelude.{◌≡◌, ◌^◌, ◌<◌, length};
+ghost use Rattle.std.specs.List.{position};
+ghost use Rattle.std.specs.Prelude.{◌≡◌, ◌==◌, ◌^◌, ◌<◌, count_by, length, not};
 
 use crate::fault::TextFault;
 
@@ -11,22 +12,28 @@ fn is_allowed(b: u8) -> bool
     matches!(b, b'a'..=b'z' | b'0'..=b'9' | b'.' | b' ' | b'\n')
 }
 
+// Where the first byte is that no text may have.
+fn first_bad(text: &[u8]) -> Option<usize>
+    ensures { result ≡ position (λ b. not (allowed b)) text.now }
+{
+    text.iter().position(|b| !is_allowed(*b))
+}
+
+// How many bytes of the text are this one.
+pub(crate) fn count_of(text: &[u8], byte: u8) -> usize
+    ensures { result ≡ count_by (λ b. b == byte) text.now }
+{
+    text.iter().filter(|b| **b == byte).count()
+}
+
 // The line, from 1, of the first byte that no text may have.
+#[tactic(auto, using(crate::proofs::Faulty::bad_byte_at))]
 fn bad_line(text: &[u8]) -> Option<u32>
     requires { length text.now < 2 ^ 32 }
     ensures { result ≡ bad_byte text.now }
 {
-    // The lines ended so far, and not the current line, whose number may not fit past the last byte.
-    let mut ended = 0;
-    for b in text {
-        if !is_allowed(*b) {
-            return Some(ended + 1);
-        }
-        if *b == b'\n' {
-            ended += 1;
-        }
-    }
-    None
+    let at = first_bad(text)?;
+    Some(count_of(&text[..at], b'\n') as u32 + 1)
 }
 
 // Whether the text has at most `most` bytes, and none but those that a text may have.
@@ -37,6 +44,7 @@ pub fn check_bytes(text: &[u8], most: u32) -> Result<(), TextFault>
     if text.len() > most as usize {
         return Err(TextFault::TooLong);
     }
+    // No method of an `Option` makes an `Err` of what it holds, and `map_or` would say less plainly which case is which.
     match bad_line(text) {
         Some(line) => Err(TextFault::BadByte { line }),
         None => Ok(()),

@@ -2,7 +2,7 @@ ghost use Rattle.texts.specs.Faults.{text_number, text_line};
 ghost use Rattle.std.specs.Prelude.{◌≡◌};
 
 // What is wrong with a text as a row of bytes. Lines are numbered from 1.
-#[derive(Clone, Copy, Drop, PartialEq, Debug)]
+#[derive(Clone, Copy, Drop, PartialEq, Eq, Debug)]
 pub enum TextFault {
     TooLong,
     BadByte { line: u32 },
@@ -10,6 +10,7 @@ pub enum TextFault {
 }
 
 impl TextFault {
+    // Faults are published as numbers: a refusal is printed as its fault's number and line.
     pub fn number(&self) -> u8
         ensures { result ≡ text_number self.now }
     {
@@ -20,7 +21,7 @@ impl TextFault {
         }
     }
 
-    // The line at fault, or 0 for a text that is too long, where no one line is.
+    // The line at fault, or 0 for a text that is too long, where no one line is: a refusal is printed with line 0 where it has none.
     pub fn line(&self) -> u32
         ensures { result ≡ text_line self.now }
     {

@@ -1,9 +1,10 @@
-ghost use Rattle.texts.specs.Lines.{end_from, goes_on, in_word, line_at, line_end, lines, word_end};
-ghost use Rattle.std.specs.List.{slice_get};
+ghost use Rattle.texts.specs.Lines.{end_from, goes_on, line_at, line_end, lines, unended, word_end};
+ghost use Rattle.std.specs.List.{slice_get, prefix_len};
 ghost use Rattle.std.specs.Option.{option_map};
 ghost use Rattle.std.specs.Prelude.{◌≡◌, ◌≤◌, min, length};
 
 // Which bytes belong to a run. The first that does not ends it.
+// A closure in its place would ask of callers that it may be called, and no public call has a `requires`.
 #[derive(Clone, Copy, Drop)]
 pub enum Run {
     // All but byte 10.
@@ -14,34 +15,35 @@ pub enum Run {
     NoSpace,
 }
 
-fn in_word(b: u8) -> bool
-    ensures { result ≡ in_word b }
-{
-    !matches!(b, b' ' | b'\n')
-}
+impl Run {
+    fn goes_on(self, b: u8) -> bool
+        ensures { result ≡ goes_on self b }
+    {
+        match self {
+            Run::InLine => b != b'\n',
+            Run::InWord => !matches!(b, b' ' | b'\n'),
+            Run::NoSpace => b != b' ',
+        }
+    }
 
-fn goes_on(run: Run, b: u8) -> bool
-    ensures { result ≡ goes_on run b }
-{
-    match run {
-        Run::InLine => b != b'\n',
-        Run::InWord => in_word(b),
-        Run::NoSpace => b != b' ',
+    // How many bytes of the run the text begins with.
+    fn front_of(self, text: &[u8]) -> usize
+        ensures value { result ≡ prefix_len (goes_on self) text.now }
+        ensures within { result ≤ length text.now }
+    {
+        text.iter().take_while(|b| self.goes_on(**b)).count()
     }
 }
 
 // The place of the first byte at or after `from` that ends the run, or the text's length if there is none.
+#[tactic(auto, using(std::proofs::lemmas::List::drop_min))]
 pub fn end_from(text: &[u8], from: usize, run: Run) -> usize
     ensures value { result ≡ end_from (goes_on run) text.now from }
     ensures within { result ≤ length text.now }
     ensures after { min from (length text.now) ≤ result }
 {
-    for end in from..text.len() {
-        if !goes_on(run, text[end]) {
-            return end;
-        }
-    }
-    text.len()
+    let start = from.min(text.len());
+    start + run.front_of(&text[start..])
 }
 
 // The place of the first byte 10 at or after `from`, or the text's length if there is none.
@@ -62,24 +64,25 @@ pub fn word_end(text: &[u8], from: usize) -> usize
     end_from(text, from, Run::InWord)
 }
 
+// The text without the byte 10 at its end, if one is there.
+#[tactic(auto, using(crate::proofs::Ends::unended_is))]
+fn unended(text: &[u8]) -> &[u8]
+    ensures { result.now ≡ unended text.now }
+{
+    match text {
+        [front @ .., b'\n'] => front,
+        _ => text,
+    }
+}
+
 // The line that comes after `before` others.
-#[tactic(auto, using(crate::proofs::Sought::sought_next))]
 fn line_after(text: &[u8], before: u32) -> Option<&[u8]>
     ensures { option_map (λ x. x.now) result ≡ slice_get (lines text.now) before }
 {
-    let mut start = 0;
-    for _ in 0..before {
-        let end = line_end(text, start);
-        // A line that nothing ends is the last one.
-        if end == text.len() {
-            return None;
-        }
-        start = end + 1;
-    }
-    if start == text.len() {
+    if text.is_empty() {
         return None;
     }
-    Some(&text[start..line_end(text, start)])
+    unended(text).split(|b| *b == b'\n').nth(before as usize)
 }
 
 // Line `number` of the text, from 1, without the byte that ends it.

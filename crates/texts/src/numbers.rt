@@ -1,21 +1,10 @@
 ghost use Rattle.texts.specs.Numbers.{digit, every, numeral, number, read_on};
 ghost use Rattle.std.specs.Prelude.{◌≡◌, true};
 
-pub(crate) fn is_digit(b: u8) -> bool
-    ensures { result ≡ digit b }
-{
-    matches!(b, b'0'..=b'9')
-}
-
 fn all_digits(word: &[u8]) -> bool
     ensures { result ≡ every digit word.now }
 {
-    for b in word {
-        if !is_digit(*b) {
-            return false;
-        }
-    }
-    true
+    word.iter().all(|b| b.is_ascii_digit())
 }
 
 // Whether the word is a number: one to ten digits, without a needless 0 in front.
@@ -46,10 +35,7 @@ fn read_digits(digits: &[u8]) -> u64
 pub fn value(digits: &[u8]) -> Option<u64>
     ensures { result ≡ number digits.now }
 {
-    if !is_number(digits) {
-        return None;
-    }
-    Some(read_digits(digits))
+    is_number(digits).then(|| read_digits(digits))
 }
 
 #[cfg(test)]

@@ -1,14 +1,14 @@
-ghost use Rattle.texts.specs.Bounds.{after_stops, bound_of};
+ghost use Rattle.texts.specs.Bounds.{bound_of};
 ghost use Rattle.texts.specs.Lines.{letter};
 ghost use Rattle.texts.specs.Numbers.{digit, every};
 ghost use Rattle.texts.specs.Tokens.{piece, name_word, token_of};
 ghost use Rattle.std.specs.Option.{option_map};
 ghost use Rattle.std.specs.List.{prefix_len};
-ghost use Rattle.std.specs.Prelude.{◌≡◌};
+ghost use Rattle.std.specs.Prelude.{◌≡◌, ◌≤◌, length};
 
-use crate::numbers::{is_digit, is_number};
+use crate::numbers::is_number;
 
-// A word of a text, which it borrows, with its line.
+// A word of a text, which it borrows. Each case has the line, since a fault of any word is told with its line.
 #[derive(Clone, Copy, Drop)]
 pub enum Token<'a> {
     // Letters only, at least one.
@@ -21,7 +21,7 @@ pub enum Token<'a> {
         bytes: &'a [u8],
         line: u32,
     },
-    // A number, two full stops, and a second number or nothing.
+    // A number, two full stops, and a second number or nothing. The parts are bytes as they stand in the word, so nothing is the empty part.
     Bound {
         first: &'a [u8],
         second: &'a [u8],
@@ -34,21 +34,10 @@ pub enum Token<'a> {
     },
 }
 
-fn is_letter(b: u8) -> bool
-    ensures { result ≡ letter b }
-{
-    matches!(b, b'a'..=b'z')
-}
-
 fn all_letters(word: &[u8]) -> bool
     ensures { result ≡ every letter word.now }
 {
-    for b in word {
-        if !is_letter(*b) {
-            return false;
-        }
-    }
-    true
+    word.iter().all(|b| b.is_ascii_lowercase())
 }
 
 // Whether the word has letters only, and at least one.
@@ -60,23 +49,10 @@ pub fn is_name(word: &[u8]) -> bool
 
 // How many digits the word begins with.
 fn digits_in_front(word: &[u8]) -> usize
-    ensures { result ≡ prefix_len digit word.now }
+    ensures value { result ≡ prefix_len digit word.now }
+    ensures within { result ≤ length word.now }
 {
-    for (i, b) in word.iter().enumerate() {
-        if !is_digit(*b) {
-            return i;
-        }
-    }
-    word.len()
-}
-
-fn after_stops(tail: &[u8]) -> Option<&[u8]>
-    ensures { option_map (λ x. x.now) result ≡ after_stops tail.now }
-{
-    match tail {
-        [b'.', b'.', rest @ ..] => Some(rest),
-        _ => None,
-    }
+    word.iter().take_while(|b| b.is_ascii_digit()).count()
 }
 
 // The two parts of a word that is a bound, of which the second may be empty.
@@ -84,16 +60,13 @@ fn bound_parts(word: &[u8]) -> Option<(&[u8], &[u8])>
     ensures { option_map (λ p. (p.0.now, p.1.now)) result ≡ bound_of word.now }
 {
     let (first, tail) = word.split_at(digits_in_front(word));
-    let second = after_stops(tail)?;
-    if is_number(first) && (second.is_empty() || is_number(second)) {
-        Some((first, second))
-    } else {
-        None
-    }
+    let second = tail.strip_prefix(b"..")?;
+    let numbers = is_number(first) && (second.is_empty() || is_number(second));
+    numbers.then_some((first, second))
 }
 
 // What the word is, by its shape alone.
-pub fn token_of<'a>(word: &'a [u8], line: u32) -> Token<'a>
+pub fn token_of(word: &[u8], line: u32) -> Token<'_>
     ensures { piece result ≡ token_of word.now line }
 {
     if is_name(word) {

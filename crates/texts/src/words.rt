@@ -1,20 +1,13 @@
 ghost use Rattle.texts.specs.Lines.{words, spaced};
 ghost use Rattle.std.specs.Prelude.{◌≡◌, not, length};
 
+use crate::bytes::count_of;
+
 // Whether a word of the line is empty: two spaces stand side by side, or one at an end, or nothing stands at all.
 fn has_empty_word(line: &[u8]) -> bool
     ensures { result ≡ not (spaced line.now) }
 {
-    // The word that the next byte comes to has no byte yet.
-    let mut empty = true;
-    for b in line {
-        let space = *b == b' ';
-        if space && empty {
-            return true;
-        }
-        empty = space;
-    }
-    empty
+    line.split(|b| *b == b' ').any(|word| word.is_empty())
 }
 
 // Whether the line has words, parted by one space each, with none at either end.
@@ -25,14 +18,9 @@ pub fn is_spaced(line: &[u8]) -> bool
 }
 
 // How many words the line has: one more than spaces.
+#[tactic(auto, using(crate::proofs::Counting::length_words))]
 pub fn word_count(line: &[u8]) -> usize
     ensures { result ≡ length (words line.now) }
 {
-    let mut count = 1;
-    for b in line {
-        if *b == b' ' {
-            count += 1;
-        }
-    }
-    count
+    count_of(line, b' ') + 1
 }

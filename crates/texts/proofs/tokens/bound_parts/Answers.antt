@@ -1,7 +1,0 @@
-use Rattle.std.proofs.Common.{arith}
-use Rattle.std.proofs.lemmas.List.Sums.{prefix_len-le-length}
-use Rattle.texts.specs.Numbers.{digit}
-use Rattle.texts.proofs.tokens.bound_parts.Goals as goal
-
-pub split_at-requires : goal.split_at-requires
-split_at-requires c = omega (arith, prefix_len-le-length digit c.args.word.now)
