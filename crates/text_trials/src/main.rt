@@ -10,17 +10,16 @@ mod table_lines;
 mod table_texts;
 mod trying;
 
-use std::io;
-
-fn run(rt: &(impl Print + AllocGlobal)) -> io::Result<()> {
+fn run(rt: &(impl Print + AllocGlobal)) -> anyhow::Result<()> {
     trying::tell_bytes(rt)?;
     trying::try_texts(rt, table_lines::TRIALS, &[])?;
     trying::try_texts(rt, table_texts::TRIALS, table_texts::LONG)?;
     trying::try_texts(rt, distance_texts::TRIALS, distance_texts::LONG)?;
     trying::try_texts(rt, entry_texts::TRIALS, entry_texts::LONG)?;
-    showing::show_taken(rt)
+    showing::show_taken(rt)?;
+    Ok(())
 }
 
-fn main(rt: HostRuntime) -> io::Result<()> {
+fn main(rt: HostRuntime) -> anyhow::Result<()> {
     run(&rt)
 }

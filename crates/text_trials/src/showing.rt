@@ -2,7 +2,7 @@
 use crate::trying::{DISTANCES, UNTOUCHED, driver};
 use formats::claim::Claim;
 use formats::distance::Distance;
-use meaning::values::{Bound, Edge, Place};
+use meaning::values::{Edge, Place};
 use sheets::distances::read_distances;
 use sheets::entries::read_entries_of;
 use sheets::list::DistanceList;
@@ -19,19 +19,10 @@ const WIDE: &[u8] = b"tick\n60000\n\n\
 
 const ENTRIES: &[u8] = b"at state open steam\n1 2 0 none\n9999999999 0 none 9999999999\n";
 
-fn print_bound(rt: &impl Print, bound: Bound) -> io::Result<()> {
-    match bound {
-        Bound::Any => print!(rt; " any"),
-        Bound::Never => print!(rt; " none"),
-        Bound::AtLeast(least) => print!(rt; " {least}.."),
-        Bound::Between(least, most) => print!(rt; " {least}..{most}"),
-    }
-}
-
 fn show_edge(rt: &impl Print, edge: &Edge) -> io::Result<()> {
     print!(rt; "edge: {} {} {}:", edge.source, edge.target, edge.event)?;
     for bound in edge.bounds {
-        print_bound(rt, bound)?;
+        print!(rt; " {bound}")?;
     }
     println!(rt)
 }

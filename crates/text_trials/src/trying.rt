@@ -83,24 +83,50 @@ impl fmt::Display for Outcome {
     }
 }
 
-fn is_blank(table: &Table) -> bool {
-    table.tick() == 0
-        && table.names().is_empty()
-        && table.places().is_empty()
-        && table.edges().is_empty()
+// What is lent to a reader, which leaves it blank if it refuses the text.
+trait Lent {
+    // How many rows the last sheet has.
+    fn rows(&self) -> usize;
+
+    fn is_blank(&self) -> bool;
+}
+
+impl Lent for Table {
+    fn rows(&self) -> usize {
+        self.edges().len()
+    }
+
+    fn is_blank(&self) -> bool {
+        self.tick() == 0
+            && self.names().is_empty()
+            && self.places().is_empty()
+            && self.edges().is_empty()
+    }
+}
+
+impl Lent for DistanceList {
+    fn rows(&self) -> usize {
+        self.lines().len()
+    }
+
+    fn is_blank(&self) -> bool {
+        self.tick() == 1 && self.events() == 1 && self.lines().is_empty()
+    }
+}
+
+impl Outcome {
+    fn left_in(lent: &impl Lent, came: Result<(), SheetFault>) -> Outcome {
+        Outcome {
+            rows: came.map(|()| lent.rows()),
+            kept: came.is_ok() || lent.is_blank(),
+        }
+    }
 }
 
 fn try_table(heap: Global, text: &[u8]) -> Outcome {
     let mut table = driver(heap);
     let came = read_table(heap, text, &mut table);
-    Outcome {
-        rows: came.map(|()| table.edges().len()),
-        kept: came.is_ok() || is_blank(&table),
-    }
-}
-
-fn is_blank_list(list: &DistanceList) -> bool {
-    list.tick() == 1 && list.events() == 1 && list.lines().is_empty()
+    Outcome::left_in(&table, came)
 }
 
 fn try_distances(heap: Global, text: &[u8]) -> Outcome {
@@ -108,10 +134,7 @@ fn try_distances(heap: Global, text: &[u8]) -> Outcome {
     let mut list = DistanceList::blank(heap);
     let _ = read_distances(heap, DISTANCES, &table, &mut list);
     let came = read_distances(heap, text, &table, &mut list);
-    Outcome {
-        rows: came.map(|()| list.lines().len()),
-        kept: came.is_ok() || is_blank_list(&list),
-    }
+    Outcome::left_in(&list, came)
 }
 
 fn is_untouched(claim: &Claim) -> bool {
@@ -132,6 +155,7 @@ fn try_entries(heap: Global, text: &[u8], room: usize) -> Result<Outcome, AllocE
     Ok(Outcome { rows, kept })
 }
 
+// The tables of cases tell by its kind which reader a text is for.
 fn try_text(heap: Global, kind: Kind, text: &[u8]) -> Result<Outcome, AllocError> {
     match kind {
         Kind::Table => Ok(try_table(heap, text)),
