@@ -22,6 +22,7 @@ const OPEN: u8 = 0;
 
 const STEAM: u8 = 1;
 
+// Only the crate of `Pair` could write a From here, and `(OPEN, 9).into()` would say less.
 const fn pair(event: u8, wait: u32) -> Pair {
     Pair { event, wait }
 }
