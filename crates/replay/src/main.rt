@@ -2,15 +2,16 @@
 
 // Replays words over a part: the reading at each pair, and whether the word is a behaviour of the part.
 // The part is that of the file `part.txt`, or the bundled one where there is no such file.
-use anyhow::anyhow;
+use anyhow::Context;
 use clocks::name::Name;
 use clocks::reading::Reading;
-use formats::fault::SheetFault;
+use formats::fault::{Refusal, SheetFault};
 use meaning::values::{Bound, Edge, Pair, Place};
 use sheets::table::read_table;
-use std::alloc::{AllocError, Global};
+use std::alloc::Global;
 use std::io::ErrorKind;
-use std::{fs, io};
+use std::rt::Files;
+use std::{fmt, fs, io};
 use tables::table::Table;
 use texts::lines::line_at;
 
@@ -21,89 +22,90 @@ const OPEN: u8 = 0;
 
 const STEAM: u8 = 1;
 
-// The bundled part: a steam driver that opens once, and may then let steam once, 2 or 3 ticks after the opening.
-fn driver(heap: Global) -> Result<Option<Table>, AllocError> {
-    let mut names = Vec::new(heap);
-    for text in [&b"open"[..], &b"steam"[..]] {
-        if let Some(name) = Name::new(text) {
-            names.push(name)?;
-        }
-    }
-    let mut places = Vec::new(heap);
-    places.push(Place {
-        start: true,
-        accepting: false,
-    })?;
-    places.push(Place {
-        start: false,
-        accepting: true,
-    })?;
-    let mut edges = Vec::new(heap);
-    let mut bounds = [Bound::Any; 8];
-    bounds[0] = Bound::Never;
-    bounds[1] = Bound::Never;
-    edges.push(Edge {
-        source: 0,
-        target: 1,
-        event: OPEN,
-        bounds,
-    })?;
-    bounds[0] = Bound::Between(2, 3);
-    edges.push(Edge {
-        source: 1,
-        target: 1,
-        event: STEAM,
-        bounds,
-    })?;
-    Ok(Table::new(100, names, places, edges))
-}
-
+// Only the crate of `Pair` could write a From here, and `(OPEN, 9).into()` would say less.
 const fn pair(event: u8, wait: u32) -> Pair {
     Pair { event, wait }
 }
 
+fn name(letters: &[u8]) -> anyhow::Result<Name> {
+    Name::new(letters).context("the bundled part has a bad name")
+}
+
+// What an edge asks of the clocks of its two events.
+fn bounds(open: Bound, steam: Bound) -> [Bound; 8] {
+    let mut bounds = [Bound::Any; 8];
+    bounds[0] = open;
+    bounds[1] = steam;
+    bounds
+}
+
+// The bundled part: a steam driver that opens once, and may then let steam once, 2 or 3 ticks after the opening.
+fn driver(heap: Global) -> anyhow::Result<Table> {
+    let names = vec![in heap; name(b"open")?, name(b"steam")?]?;
+    let shut = Place {
+        start: true,
+        accepting: false,
+    };
+    let opened = Place {
+        start: false,
+        accepting: true,
+    };
+    let opening = Edge {
+        source: 0,
+        target: 1,
+        event: OPEN,
+        bounds: bounds(Bound::Never, Bound::Never),
+    };
+    let steaming = Edge {
+        source: 1,
+        target: 1,
+        event: STEAM,
+        bounds: bounds(Bound::Between(2, 3), Bound::Never),
+    };
+    let places = vec![in heap; shut, opened]?;
+    let edges = vec![in heap; opening, steaming]?;
+    Table::new(100, names, places, edges).context("the bundled part breaks a limit")
+}
+
 // A name as text. Letters are always text, so the other case does not come.
 fn text_of(name: &Name) -> &str {
-    match std::str::from_utf8(name.bytes()) {
-        Ok(text) => text,
-        Err(_) => "",
-    }
+    std::str::from_utf8(name.bytes()).unwrap_or("")
 }
 
 fn name_of(part: &Table, event: u8) -> &str {
-    match part.names().get(usize::from(event)) {
-        Some(name) => text_of(name),
-        None => "unknown",
-    }
+    let name = part.names().get(usize::from(event));
+    name.map_or("unknown", text_of)
+}
+
+// A reading of a part's clocks, each event with the ticks since it last came.
+#[derive(Clone, Copy, Drop)]
+struct PartReading<'a> {
+    part: &'a Table,
+    reading: Reading,
 }
 
 // A number above the cap stands for itself and all larger ones, and is shown as such.
-fn shown_cell(heap: Global, part: &Table, cell: Option<u16>) -> Result<String, AllocError> {
-    match cell {
-        None => String::from_str(heap, "none"),
-        Some(ticks) if ticks > u16::from(part.cap()) => format!(in heap; "{ticks}.."),
-        Some(ticks) => format!(in heap; "{ticks}"),
+impl fmt::Display for PartReading<'_> {
+    fn fmt<W: fmt::Write>(&self, f: &mut fmt::Formatter<W>) -> fmt::Result {
+        let cap = u16::from(self.part.cap());
+        for (name, cell) in self.part.names().iter().zip(self.reading.cells) {
+            let name = text_of(name);
+            match cell {
+                None => write!(f, " {name} none")?,
+                Some(ticks) if ticks > cap => write!(f, " {name} {ticks}..")?,
+                Some(ticks) => write!(f, " {name} {ticks}")?,
+            }
+        }
+        Ok(())
     }
 }
 
-fn shown_reading(heap: Global, part: &Table, reading: &Reading) -> Result<String, AllocError> {
-    let mut line = String::new(heap);
-    for event in 0..part.events() {
-        let name = name_of(part, event);
-        let cell = shown_cell(heap, part, reading.cell(event))?;
-        line.push_str(format!(in heap; " {name} {cell}")?.as_str())?;
-    }
-    Ok(line)
-}
-
-fn replay(rt: &HostRuntime, part: &Table, word: &[Pair]) -> anyhow::Result<()> {
-    let heap = rt.alloc();
+fn replay(rt: &impl Print, part: &Table, word: &[Pair]) -> io::Result<()> {
     for (position, pair) in word.iter().enumerate() {
         let name = name_of(part, pair.event);
         let wait = pair.wait;
         if let Some(reading) = part.reading_at(word, position) {
-            let reading = shown_reading(heap, part, &reading)?;
-            println!(rt; "{name} {wait}:{reading}")?;
+            println!(rt; "{name} {wait}:{}", PartReading { part, reading })?;
         }
     }
     let answer = if part.behaves(word) {
@@ -111,36 +113,28 @@ fn replay(rt: &HostRuntime, part: &Table, word: &[Pair]) -> anyhow::Result<()> {
     } else {
         "not a behaviour"
     };
-    println!(rt; "{answer}\n")?;
+    println!(rt; "{answer}\n")
+}
+
+fn replay_words(rt: &impl Print, part: &Table) -> anyhow::Result<()> {
+    let words: [&[Pair]; 7] = [
+        &[pair(OPEN, 9), pair(STEAM, 2)],
+        &[pair(OPEN, 9), pair(STEAM, 3)],
+        &[pair(OPEN, 9), pair(STEAM, 4)],
+        &[pair(OPEN, 7), pair(OPEN, 2), pair(STEAM, 3)],
+        &[pair(OPEN, 0), pair(STEAM, 4_294_967_295)],
+        &[pair(STEAM, 2)],
+        &[],
+    ];
+    for word in words {
+        replay(rt, part, word)?;
+    }
     Ok(())
 }
 
-fn replay_words(rt: &HostRuntime, part: &Table) -> anyhow::Result<()> {
-    replay(rt, part, &[pair(OPEN, 9), pair(STEAM, 2)])?;
-    replay(rt, part, &[pair(OPEN, 9), pair(STEAM, 3)])?;
-    replay(rt, part, &[pair(OPEN, 9), pair(STEAM, 4)])?;
-    replay(rt, part, &[pair(OPEN, 7), pair(OPEN, 2), pair(STEAM, 3)])?;
-    replay(rt, part, &[pair(OPEN, 0), pair(STEAM, 4_294_967_295)])?;
-    replay(rt, part, &[pair(STEAM, 2)])?;
-    replay(rt, part, &[])
-}
-
-// The text of the part's file; none where there is no file.
-fn part_text(rt: &HostRuntime) -> io::Result<Option<Vec<u8>>> {
-    match fs::read(rt, PART) {
-        Ok(text) => Ok(Some(text)),
-        Err(error) if error.kind() == ErrorKind::NotFound => Ok(None),
-        Err(error) => Err(error),
-    }
-}
-
 // The refusal, and the line that it names where the text has it. A byte that does not print is shown as its number.
-fn tell_fault(rt: &HostRuntime, text: &[u8], fault: SheetFault) -> anyhow::Result<()> {
-    let Some(refusal) = fault.refusal() else {
-        return Err(anyhow!("no memory for the part"));
-    };
-    let number = refusal.number;
-    let line = refusal.line;
+fn tell_fault(rt: &impl Print, text: &[u8], fault: SheetFault) -> anyhow::Result<()> {
+    let Refusal { number, line } = fault.refusal().context("no memory for the part")?;
     match line_at(text, line) {
         None => println!(rt; "{PART}: refusal {number}, line {line}")?,
         Some(bytes) => {
@@ -151,22 +145,22 @@ fn tell_fault(rt: &HostRuntime, text: &[u8], fault: SheetFault) -> anyhow::Resul
     Ok(())
 }
 
-fn replay_bundled(rt: &HostRuntime) -> anyhow::Result<()> {
-    match driver(rt.alloc())? {
-        Some(part) => replay_words(rt, &part),
-        None => Err(anyhow!("the bundled part breaks a limit")),
+fn replay_text(rt: &(impl Print + AllocGlobal), text: &[u8]) -> anyhow::Result<()> {
+    let heap = rt.alloc();
+    let mut part = Table::blank(heap);
+    match read_table(heap, text, &mut part) {
+        Ok(()) => replay_words(rt, &part),
+        Err(fault) => tell_fault(rt, text, fault),
     }
 }
 
-fn run(rt: &HostRuntime) -> anyhow::Result<()> {
-    let heap = rt.alloc();
-    let Some(text) = part_text(rt)? else {
-        return replay_bundled(rt);
-    };
-    let mut part = Table::blank(heap);
-    match read_table(heap, text.as_slice(), &mut part) {
-        Ok(()) => replay_words(rt, &part),
-        Err(fault) => tell_fault(rt, text.as_slice(), fault),
+fn run(rt: &(impl Files + Print + AllocGlobal)) -> anyhow::Result<()> {
+    match fs::read(rt, PART) {
+        Ok(text) => replay_text(rt, text.as_slice()),
+        Err(error) if error.kind() == ErrorKind::NotFound => {
+            replay_words(rt, &driver(rt.alloc())?)
+        }
+        Err(error) => Err(error.into()),
     }
 }
 

@@ -10,13 +10,14 @@ mod table_lines;
 mod table_texts;
 mod trying;
 
-fn run(rt: &HostRuntime) -> anyhow::Result<()> {
+fn run(rt: &(impl Print + AllocGlobal)) -> anyhow::Result<()> {
     trying::tell_bytes(rt)?;
     trying::try_texts(rt, table_lines::TRIALS, &[])?;
     trying::try_texts(rt, table_texts::TRIALS, table_texts::LONG)?;
     trying::try_texts(rt, distance_texts::TRIALS, distance_texts::LONG)?;
     trying::try_texts(rt, entry_texts::TRIALS, entry_texts::LONG)?;
-    showing::show_taken(rt)
+    showing::show_taken(rt)?;
+    Ok(())
 }
 
 fn main(rt: HostRuntime) -> anyhow::Result<()> {

@@ -1,7 +1,8 @@
 // What readers make of texts that they take.
 use crate::trying::{DISTANCES, UNTOUCHED, driver};
 use formats::claim::Claim;
-use meaning::values::{Bound, Edge};
+use formats::distance::Distance;
+use meaning::values::{Edge, Place};
 use sheets::distances::read_distances;
 use sheets::entries::read_entries_of;
 use sheets::list::DistanceList;
@@ -18,36 +19,20 @@ const WIDE: &[u8] = b"tick\n60000\n\n\
 
 const ENTRIES: &[u8] = b"at state open steam\n1 2 0 none\n9999999999 0 none 9999999999\n";
 
-fn print_bound(rt: &HostRuntime, bound: Bound) -> io::Result<()> {
-    match bound {
-        Bound::Any => print!(rt; " any"),
-        Bound::Never => print!(rt; " none"),
-        Bound::AtLeast(least) => print!(rt; " {least}.."),
-        Bound::Between(least, most) => print!(rt; " {least}..{most}"),
-    }
-}
-
-fn show_edge(rt: &HostRuntime, edge: &Edge) -> io::Result<()> {
-    let source = edge.source;
-    let target = edge.target;
-    let event = edge.event;
-    print!(rt; "edge: {source} {target} {event}:")?;
+fn show_edge(rt: &impl Print, edge: &Edge) -> io::Result<()> {
+    print!(rt; "edge: {} {} {}:", edge.source, edge.target, edge.event)?;
     for bound in edge.bounds {
-        print_bound(rt, bound)?;
+        print!(rt; " {bound}")?;
     }
     println!(rt)
 }
 
-fn show_table(rt: &HostRuntime, table: &Table) -> io::Result<()> {
-    let tick = table.tick();
-    println!(rt; "tick {tick}")?;
+fn show_table(rt: &impl Print, table: &Table) -> io::Result<()> {
+    println!(rt; "tick {}", table.tick())?;
     for name in table.names() {
-        let name = name.bytes().escape_ascii();
-        println!(rt; "event {name}")?;
+        println!(rt; "event {}", name.bytes().escape_ascii())?;
     }
-    for place in table.places() {
-        let start = place.start;
-        let accepting = place.accepting;
+    for Place { start, accepting } in table.places() {
         println!(rt; "place: start {start}, final {accepting}")?;
     }
     for edge in table.edges() {
@@ -57,7 +42,7 @@ fn show_table(rt: &HostRuntime, table: &Table) -> io::Result<()> {
 }
 
 // The second table takes the place of the first.
-fn show_tables(rt: &HostRuntime) -> io::Result<()> {
+fn show_tables(rt: &(impl Print + AllocGlobal)) -> io::Result<()> {
     let heap = rt.alloc();
     let mut table = driver(heap);
     show_table(rt, &table)?;
@@ -65,27 +50,24 @@ fn show_tables(rt: &HostRuntime) -> io::Result<()> {
     show_table(rt, &table)
 }
 
-fn show_distances(rt: &HostRuntime, table: &Table) -> io::Result<()> {
+fn show_distances(rt: &(impl Print + AllocGlobal), table: &Table) -> io::Result<()> {
     let heap = rt.alloc();
     let mut list = DistanceList::blank(heap);
     let _ = read_distances(heap, DISTANCES, table, &mut list);
-    let tick = list.tick();
-    let events = list.events();
-    println!(rt; "tick {tick}, {events} events")?;
-    for line in list.lines() {
-        let on = line.on;
-        let since = line.since;
-        let least = line.least;
-        let most = line.most;
+    println!(rt; "tick {}, {} events", list.tick(), list.events())?;
+    for Distance {
+        on,
+        since,
+        least,
+        most,
+    } in list.lines() {
         println!(rt; "distance: {on} {since} {least} {most}")?;
     }
     Ok(())
 }
 
-fn show_claim(rt: &HostRuntime, claim: &Claim) -> io::Result<()> {
-    let place = claim.place;
-    let state = claim.state;
-    print!(rt; "entry: {place} {state}:")?;
+fn show_claim(rt: &impl Print, claim: &Claim) -> io::Result<()> {
+    print!(rt; "entry: {} {}:", claim.place, claim.state)?;
     for cell in claim.cells {
         match cell {
             None => print!(rt; " none")?,
@@ -96,7 +78,7 @@ fn show_claim(rt: &HostRuntime, claim: &Claim) -> io::Result<()> {
 }
 
 // The third claim is left as it was.
-fn show_entries(rt: &HostRuntime, table: &Table) -> io::Result<()> {
+fn show_entries(rt: &impl Print, table: &Table) -> io::Result<()> {
     let mut claims = [UNTOUCHED; 3];
     let _ = read_entries_of(ENTRIES, table, &mut claims);
     for claim in &claims {
@@ -105,10 +87,9 @@ fn show_entries(rt: &HostRuntime, table: &Table) -> io::Result<()> {
     Ok(())
 }
 
-pub(crate) fn show_taken(rt: &HostRuntime) -> anyhow::Result<()> {
+pub(crate) fn show_taken(rt: &(impl Print + AllocGlobal)) -> io::Result<()> {
     let table = driver(rt.alloc());
     show_tables(rt)?;
     show_distances(rt, &table)?;
-    show_entries(rt, &table)?;
-    Ok(())
+    show_entries(rt, &table)
 }

@@ -1,11 +1,12 @@
 // How a text is tried: its reader is lent what already holds something, so that what a refusal leaves shows.
 use formats::claim::Claim;
-use formats::fault::SheetFault;
+use formats::fault::{Refusal, SheetFault};
 use sheets::distances::read_distances;
 use sheets::entries::read_entries_of;
 use sheets::list::DistanceList;
 use sheets::table::read_table;
 use std::alloc::{AllocError, Global};
+use std::{fmt, io};
 use tables::table::Table;
 
 // Which reader takes the text. Distances and entries are read for the events open and steam, and entries into a list of this length.
@@ -59,139 +60,146 @@ pub(crate) fn driver(heap: Global) -> Table {
     table
 }
 
-// What was tried and what came: how many rows the last sheet of a text that is taken has, or the number and the line of a refusal.
-// `kept` says whether the reader left what it has to leave.
-fn tell(
-    rt: &HostRuntime,
-    what: &str,
-    came: Result<usize, SheetFault>,
+// What came of a text: how many rows its last sheet has if it is taken, or else why not. `kept` says whether the reader left what it has to
+// leave.
+#[derive(Clone, Copy, Drop)]
+struct Outcome {
+    rows: Result<usize, SheetFault>,
     kept: bool,
-) -> anyhow::Result<()> {
-    let remark = if kept {
-        ""
-    } else {
-        ", but what is left is wrong"
-    };
-    match came {
-        Ok(rows) => println!(rt; "{what}: taken {rows}{remark}")?,
-        Err(fault) => match fault.refusal() {
-            None => println!(rt; "{what}: no memory{remark}")?,
-            Some(refusal) => {
-                let number = refusal.number;
-                let line = refusal.line;
-                println!(rt; "{what}: {number} {line}{remark}")?;
-            }
-        },
+}
+
+// A refusal is shown by its number and its line.
+impl fmt::Display for Outcome {
+    fn fmt<W: fmt::Write>(&self, f: &mut fmt::Formatter<W>) -> fmt::Result {
+        match self.rows.map_err(|fault| fault.refusal()) {
+            Ok(rows) => write!(f, "taken {rows}")?,
+            Err(Some(Refusal { number, line })) => write!(f, "{number} {line}")?,
+            Err(None) => write!(f, "no memory")?,
+        }
+        if !self.kept {
+            write!(f, ", but what is left is wrong")?;
+        }
+        Ok(())
     }
-    Ok(())
 }
 
-fn is_blank(table: &Table) -> bool {
-    table.tick() == 0
-        && table.names().is_empty()
-        && table.places().is_empty()
-        && table.edges().is_empty()
+// What is lent to a reader, which leaves it blank if it refuses the text.
+trait Lent {
+    // How many rows the last sheet has.
+    fn rows(&self) -> usize;
+
+    fn is_blank(&self) -> bool;
 }
 
-fn try_table(rt: &HostRuntime, what: &str, text: &[u8]) -> anyhow::Result<()> {
-    let heap = rt.alloc();
+impl Lent for Table {
+    fn rows(&self) -> usize {
+        self.edges().len()
+    }
+
+    fn is_blank(&self) -> bool {
+        self.tick() == 0
+            && self.names().is_empty()
+            && self.places().is_empty()
+            && self.edges().is_empty()
+    }
+}
+
+impl Lent for DistanceList {
+    fn rows(&self) -> usize {
+        self.lines().len()
+    }
+
+    fn is_blank(&self) -> bool {
+        self.tick() == 1 && self.events() == 1 && self.lines().is_empty()
+    }
+}
+
+impl Outcome {
+    fn left_in(lent: &impl Lent, came: Result<(), SheetFault>) -> Outcome {
+        Outcome {
+            rows: came.map(|()| lent.rows()),
+            kept: came.is_ok() || lent.is_blank(),
+        }
+    }
+}
+
+fn try_table(heap: Global, text: &[u8]) -> Outcome {
     let mut table = driver(heap);
-    match read_table(heap, text, &mut table) {
-        Ok(()) => tell(rt, what, Ok(table.edges().len()), true),
-        Err(fault) => tell(rt, what, Err(fault), is_blank(&table)),
-    }
+    let came = read_table(heap, text, &mut table);
+    Outcome::left_in(&table, came)
 }
 
-fn is_blank_list(list: &DistanceList) -> bool {
-    list.tick() == 1 && list.events() == 1 && list.lines().is_empty()
-}
-
-fn try_distances(rt: &HostRuntime, what: &str, text: &[u8]) -> anyhow::Result<()> {
-    let heap = rt.alloc();
+fn try_distances(heap: Global, text: &[u8]) -> Outcome {
     let table = driver(heap);
     let mut list = DistanceList::blank(heap);
     let _ = read_distances(heap, DISTANCES, &table, &mut list);
-    match read_distances(heap, text, &table, &mut list) {
-        Ok(()) => tell(rt, what, Ok(list.lines().len()), true),
-        Err(fault) => tell(rt, what, Err(fault), is_blank_list(&list)),
-    }
+    let came = read_distances(heap, text, &table, &mut list);
+    Outcome::left_in(&list, came)
 }
 
-// Whether the claims after the first few are untouched.
-fn untouched_after(claims: &[Claim], count: usize) -> bool {
-    for claim in claims.iter().skip(count) {
-        let mut same = claim.place == FILLER && claim.state == FILLER;
-        for cell in claim.cells {
-            same = same && cell == Some(FILLER);
-        }
-        if !same {
-            return false;
-        }
-    }
-    true
+fn is_untouched(claim: &Claim) -> bool {
+    let Claim {
+        place,
+        state,
+        cells,
+    } = *claim;
+    place == FILLER && state == FILLER && cells == [Some(FILLER); 8]
 }
 
-fn try_entries(rt: &HostRuntime, what: &str, text: &[u8], room: usize) -> anyhow::Result<()> {
-    let heap = rt.alloc();
+// The claims after those of the text are to be untouched, and all of them where it is refused.
+fn try_entries(heap: Global, text: &[u8], room: usize) -> Result<Outcome, AllocError> {
     let table = driver(heap);
     let mut claims = vec![in heap; UNTOUCHED; room]?;
-    match read_entries_of(text, &table, claims.as_mut_slice()) {
-        Ok(count) => {
-            let kept = untouched_after(claims.as_slice(), count);
-            tell(rt, what, Ok(count), kept)
-        }
-        Err(fault) => {
-            let kept = untouched_after(claims.as_slice(), 0);
-            tell(rt, what, Err(fault), kept)
-        }
-    }
+    let rows = read_entries_of(text, &table, claims.as_mut_slice());
+    let kept = claims.iter().skip(rows.unwrap_or(0)).all(is_untouched);
+    Ok(Outcome { rows, kept })
 }
 
-fn try_text(rt: &HostRuntime, kind: Kind, what: &str, text: &[u8]) -> anyhow::Result<()> {
+// The tables of cases tell by its kind which reader a text is for.
+fn try_text(heap: Global, kind: Kind, text: &[u8]) -> Result<Outcome, AllocError> {
     match kind {
-        Kind::Table => try_table(rt, what, text),
-        Kind::Distances => try_distances(rt, what, text),
-        Kind::Entries(room) => try_entries(rt, what, text, room),
+        Kind::Table => Ok(try_table(heap, text)),
+        Kind::Distances => Ok(try_distances(heap, text)),
+        Kind::Entries(room) => try_entries(heap, text, room),
     }
 }
 
-fn try_tried(rt: &HostRuntime, trials: &Trials) -> anyhow::Result<()> {
+fn try_tried(rt: &(impl Print + AllocGlobal), trials: &Trials) -> io::Result<()> {
     let heap = rt.alloc();
-    let name = trials.name;
-    let before = trials.before;
-    let after = trials.after;
-    for tried in trials.tried {
-        let shown = tried.escape_default();
-        let what = format!(in heap; "{name} `{shown}`")?;
-        let text = format!(in heap; "{before}{tried}{after}")?;
-        try_text(rt, trials.kind, what.as_str(), text.as_bytes())?;
+    let Trials {
+        kind,
+        name,
+        before,
+        after,
+        tried,
+    } = *trials;
+    for part in tried {
+        let text = format!(in heap; "{before}{part}{after}")?;
+        let came = try_text(heap, kind, text.as_bytes())?;
+        println!(rt; "{name} `{}`: {came}", part.escape_default())?;
     }
     Ok(())
 }
 
 fn long_text(heap: Global, trial: &LongTrial) -> Result<String, AllocError> {
-    let mut text = String::new(heap);
-    for part in trial.before {
-        text.push_str(part)?;
-    }
-    for _ in 0..trial.times {
-        text.push_str(trial.repeated)?;
-    }
-    text.push_str(trial.after)?;
-    Ok(text)
+    let before = trial.before.concat(heap)?;
+    let repeated = trial.repeated.repeat(heap, trial.times)?;
+    format!(in heap; "{before}{repeated}{}", trial.after)
 }
 
 pub(crate) fn try_texts(
-    rt: &HostRuntime,
+    rt: &(impl Print + AllocGlobal),
     all: &[Trials],
     long: &[LongTrial],
-) -> anyhow::Result<()> {
+) -> io::Result<()> {
+    let heap = rt.alloc();
     for trials in all {
         try_tried(rt, trials)?;
     }
     for trial in long {
-        let text = long_text(rt.alloc(), trial)?;
-        try_text(rt, trial.kind, trial.what, text.as_bytes())?;
+        let text = long_text(heap, trial)?;
+        let came = try_text(heap, trial.kind, text.as_bytes())?;
+        println!(rt; "{}: {came}", trial.what)?;
     }
     Ok(())
 }
@@ -199,25 +207,17 @@ pub(crate) fn try_texts(
 // Whether a text of this one byte is refused for it.
 fn is_stranger(heap: Global, byte: u8) -> bool {
     let mut table = Table::blank(heap);
-    match read_table(heap, &[byte], &mut table) {
-        Ok(()) => false,
-        Err(fault) => match fault.refusal() {
-            Some(refusal) => refusal.number == 2,
-            None => false,
-        },
-    }
+    read_table(heap, &[byte], &mut table)
+        .err()
+        .and_then(|fault| fault.refusal())
+        .is_some_and(|refusal| refusal.number == 2)
 }
 
 // All bytes that a text may have.
-pub(crate) fn tell_bytes(rt: &HostRuntime) -> anyhow::Result<()> {
+pub(crate) fn tell_bytes(rt: &(impl Print + AllocGlobal)) -> io::Result<()> {
     let heap = rt.alloc();
-    let mut known = Vec::new(heap);
-    for byte in 0..=255 {
-        if !is_stranger(heap, byte) {
-            known.push(byte)?;
-        }
-    }
-    let shown = known.as_slice().escape_ascii();
-    println!(rt; "bytes of a text: `{shown}`")?;
-    Ok(())
+    let known: Vec<u8> = (0..=255)
+        .filter(|byte| !is_stranger(heap, *byte))
+        .collect(heap)?;
+    println!(rt; "bytes of a text: `{}`", known.as_slice().escape_ascii())
 }

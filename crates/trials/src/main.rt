@@ -5,7 +5,7 @@
 mod parts;
 mod words;
 
-fn run(rt: &HostRuntime) -> anyhow::Result<()> {
+fn run(rt: &(impl Print + AllocGlobal)) -> anyhow::Result<()> {
     parts::try_parts(rt)?;
     words::try_words(rt)
 }

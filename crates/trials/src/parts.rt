@@ -2,6 +2,7 @@
 use clocks::name::Name;
 use meaning::values::{Bound, Edge, Place};
 use std::alloc::{AllocError, Global};
+use std::{array, io};
 use tables::table::Table;
 
 #[derive(Clone, Copy, Drop)]
@@ -248,30 +249,29 @@ const TABLES: &[TableTrial] = &[
     },
 ];
 
+// Enough letters for the longest name.
+const LETTERS: &[u8] = b"aaaaaaaaaaaa";
+
 // The names a, aa, aaa and so on.
 fn names(heap: Global, trial: &TableTrial) -> Result<Vec<Name>, AllocError> {
-    let mut names = Vec::new(heap);
-    for i in 0..trial.events {
-        let size = if trial.twins && i == 1 { 1 } else { i + 1 };
-        if let Some(text) = b"aaaaaaaaaaaa".get(0..size) {
-            if let Some(name) = Name::new(text) {
-                names.push(name)?;
-            }
-        }
-    }
-    Ok(names)
+    (1..=trial.events)
+        .map(|size| if trial.twins && size == 2 { 1 } else { size })
+        .filter_map(|size| LETTERS.get(..size).and_then(Name::new))
+        .collect(heap)
 }
 
 fn edge(trial: &TableTrial) -> Edge {
-    let mut bounds = [Bound::Any; 8];
-    if trial.bounded < 8 {
-        bounds[trial.bounded] = trial.bound;
-    }
     Edge {
         source: trial.source,
         target: trial.target,
         event: trial.event,
-        bounds,
+        bounds: array::from_fn(|event| {
+            if event == trial.bounded {
+                trial.bound
+            } else {
+                Bound::Any
+            }
+        }),
     }
 }
 
@@ -286,19 +286,18 @@ fn table(heap: Global, trial: &TableTrial) -> Result<Option<Table>, AllocError> 
     Ok(Table::new(trial.tick, names, places, edges))
 }
 
-fn tell(rt: &HostRuntime, what: &str, taken: bool) -> anyhow::Result<()> {
-    let came = if taken { "taken" } else { "refused" };
-    println!(rt; "{what}: {came}")?;
-    Ok(())
+// What was tried, and whether it was made.
+fn tell<T: Drop>(rt: &impl Print, what: &str, made: Option<T>) -> io::Result<()> {
+    let came = made.map_or("refused", |_| "taken");
+    println!(rt; "{what}: {came}")
 }
 
-pub(crate) fn try_parts(rt: &HostRuntime) -> anyhow::Result<()> {
+pub(crate) fn try_parts(rt: &(impl Print + AllocGlobal)) -> io::Result<()> {
     for trial in NAMES {
-        tell(rt, trial.what, Name::new(trial.letters).is_some())?;
+        tell(rt, trial.what, Name::new(trial.letters))?;
     }
     for trial in TABLES {
-        let table = table(rt.alloc(), trial)?;
-        tell(rt, trial.what, table.is_some())?;
+        tell(rt, trial.what, table(rt.alloc(), trial)?)?;
     }
     Ok(())
 }

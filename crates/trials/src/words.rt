@@ -1,8 +1,8 @@
 // Which words a part has: its one event comes first by an edge that asks for none before it, and then by an edge with the bound that is tried.
-use anyhow::anyhow;
+use anyhow::Context;
 use clocks::name::Name;
 use meaning::values::{Bound, Edge, Pair, Place};
-use std::alloc::{AllocError, Global};
+use std::alloc::Global;
 use tables::table::Table;
 
 #[derive(Clone, Copy, Drop)]
@@ -143,42 +143,37 @@ const WORDS: &[WordTrial] = &[
     },
 ];
 
-fn part(heap: Global, bound: Bound) -> Result<Option<Table>, AllocError> {
-    let mut names = Vec::new(heap);
-    if let Some(name) = Name::new(b"a") {
-        names.push(name)?;
-    }
+fn part(heap: Global, bound: Bound) -> anyhow::Result<Table> {
+    let name = Name::new(b"a").context("the part has a bad name")?;
     let place = Place {
         start: true,
         accepting: true,
     };
-    let places = vec![in heap; place; 1]?;
-    let mut edges = Vec::new(heap);
-    for bound in [Bound::Never, bound] {
+    let edges = [Bound::Never, bound].map(|first| {
         let mut bounds = [Bound::Any; 8];
-        bounds[0] = bound;
-        edges.push(Edge {
+        bounds[0] = first;
+        Edge {
             source: 0,
             target: 0,
             event: 0,
             bounds,
-        })?;
-    }
-    Ok(Table::new(100, names, places, edges))
+        }
+    });
+    let names = vec![in heap; name]?;
+    let places = vec![in heap; place]?;
+    let edges = Vec::from_array(heap, edges)?;
+    Table::new(100, names, places, edges).context("the part breaks a limit")
 }
 
-pub(crate) fn try_words(rt: &HostRuntime) -> anyhow::Result<()> {
+pub(crate) fn try_words(rt: &(impl Print + AllocGlobal)) -> anyhow::Result<()> {
     for trial in WORDS {
-        let Some(part) = part(rt.alloc(), trial.bound)? else {
-            return Err(anyhow!("the part breaks a limit"));
-        };
-        let what = trial.what;
+        let part = part(rt.alloc(), trial.bound)?;
         let came = if part.behaves(trial.word) {
             "yes"
         } else {
             "no"
         };
-        println!(rt; "{what}: {came}")?;
+        println!(rt; "{}: {came}", trial.what)?;
     }
     Ok(())
 }
