@@ -132,12 +132,23 @@ impl Table {
         !word.is_empty() && self.accepts(word)
     }
 
+    fn reading_within(&self, word: &[Pair], position: usize) -> Reading
+        requires { position < length word.now }
+        ensures { CappedReads (cap_of (contents self.now).edges) (length (contents self.now).names) word.now position result.cells }
+    {
+        let before = self.walked(&word[..position]).reading;
+        before.advanced(word[position].wait, self.cap())
+    }
+
     // The reading at a position of a word, capped at the table's cap; none past its end.
+    // No `get` and `?`: they prove only by a written answer, and a body that stops too early is then refused there and not here.
     pub fn reading_at(&self, word: &[Pair], position: usize) -> Option<Reading>
         ensures { MatchOption result (length word.now ≤ position) (λ x. (position < length word.now) × CappedReads (cap_of (contents self.now).edges) (length (contents self.now).names) word.now position x.cells) }
     {
-        let pair = word.get(position)?;
-        let before = self.walked(&word[..position]).reading;
-        Some(before.advanced(pair.wait, self.cap()))
+        if position < word.len() {
+            Some(self.reading_within(word, position))
+        } else {
+            None
+        }
     }
 }
