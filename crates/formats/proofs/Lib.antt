@@ -15,4 +15,3 @@ pub mod TableLaws
 pub mod EntryLaws
 pub mod DistanceLaws
 pub mod ReaderSteps
-pub mod RowCells

@@ -247,12 +247,7 @@ module _ (limits : Limits) (count : ℕ) (kind : RowKind) (names : List (List �
       go true e = ended l.last (ltb count limits.least) e
       go false e = test (misspaced l) 3 _ _ (test (lacks_sheet limits.more l) 4 _ _ (test (leb limits.most count) 7 _ _ (row (row_of kind names l.bytes)))) e
 
--- a head that is taken or refused is so whatever it leads to
-pub head-maps : {X S : Type 0} (more wrong : ℕ) (l : Line) (f : X → S) (x y : X) → head_step more wrong l x ≡ Ok y → head_step more wrong l (f x) ≡ Ok (f y)
-head-maps more wrong l f x y h =
-    let head = head-taken more wrong l x y h in
-    head-goes more wrong l (f x) head.fine head.whole head.right ∙ ap (λ z. Ok (f z)) head.goes
-
+-- a head that is refused is so whatever it leads to
 pub head-fails : {X S : Type 0} (more wrong : ℕ) (l : Line) (x : X) (s : S) (n : ℕ) → head_step more wrong l x ≡ Err n → head_step more wrong l s ≡ Err n
 head-fails {X} {S} more wrong l x s n h = test (misspaced l) 3 _ _ (test (lacks_sheet more l) 4 _ _ (last (eqb wrong 0))) h
   where

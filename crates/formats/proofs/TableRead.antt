@@ -236,16 +236,6 @@ keeps EdgeRows s t l good h = keeps-edge-rows s t l good h
 pub good-kept : (s t : Parts) (l : Line) → GoodAt s.stage s → table_step s l ≡ Ok t → GoodAt t.stage t
 good-kept s t l good h = (keeps s.stage s t l good h).1
 
-pub good-limits : (stage : Stage) (s : Parts) → GoodAt stage s → stage ≡ EdgeRows → (length s.places ≤ 32) × (length s.names ≤ 8)
-good-limits EdgeRows s good e =
-    let few = and_parts (leb 1 (length s.names) && leb (length s.names) 8) _ good.2 in
-    (good.1.1, leb-true (length s.names) 8 (and_parts (leb 1 (length s.names)) _ few.0).1)
-good-limits TickHead s good e = absurd (let z : ◌≡◌ {A = ℕ} 0 1 = cc in omega arith)
-good-limits TickRows s good e = absurd (let z : ◌≡◌ {A = ℕ} 0 1 = cc in omega arith)
-good-limits PlaceHead s good e = absurd (let z : ◌≡◌ {A = ℕ} 0 1 = cc in omega arith)
-good-limits PlaceRows s good e = absurd (let z : ◌≡◌ {A = ℕ} 0 1 = cc in omega arith)
-good-limits EdgeHead s good e = absurd (let z : ◌≡◌ {A = ℕ} 0 1 = cc in omega arith)
-
 -- ---- the last line
 
 pub last_line : (stage : Stage) (s t : Parts) (l : Line) → step_at stage s l ≡ Ok t → l.last ≡ true → (t.stage ≡ EdgeRows) × (l.ended ≡ true)

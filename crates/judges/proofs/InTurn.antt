@@ -6,9 +6,6 @@ use Rattle.std.proofs.lemmas.Bool.{cases_Bool, cases_lt, lt-ltb, le-ltb, lt-leb,
 use Rattle.texts.specs.Lines.{lines, onto, ended, ended_after, in_line, line_end}
 use Rattle.texts.proofs.Pieces.{before, before_here, before-later, some-line}
 use Rattle.formats.specs.Walk.{is_nil}
-use Rattle.judges.specs.Cursor.{left, Takes}
-use Rattle.judges.specs.declared.cursor.Lines.{Lines}
-use Rattle.formats.specs.declared.line.TextLine.{TextLine}
 
 -- ---- nothing is left
 
@@ -100,10 +97,3 @@ few-lines (b ∷ t) = go (eqb b 10) (few-lines t)
     go : (c : Bool) → length (lines t) ≤ length t → length (cond c ([] ∷ lines t) (onto b (lines t))) ≤ suc (length t)
     go true h = omega arith
     go false h = lines-onto b (lines t) (length t) h
-
--- The number goes up by one with each line, as long as all lines left have a number.
-pub counts-on : (from to : Lines) (line : TextLine) → Takes from to line → from.number + length (left from) ≤ 4294967295
-    → (to.number ≡ suc from.number) × (suc (length (left to)) ≡ length (left from))
-counts-on from to line h few =
-    let long : length (left from) ≡ suc (length (left to)) = ap length h.here in
-    (omega (arith, h.counted, long), sym long)

@@ -1,40 +1,15 @@
--- The words of a line are read from the left, each in its column; and where in the line a word ends and the next begins. Assumes nothing.
-use Rattle.std.proofs.Common.{◌≡◌, ℕ, ◌+◌, ◌-◌, ◌<◌, ◌≤◌, cond, eqb, ltb, leb, List, [], ◌∷◌, ◌++◌, length, get_or, take, drop, set, replicate, Some, Ok, Err, Result, sym, refl, ap, ◌∙◌, zero-add, arith}
-use Rattle.std.proofs.lemmas.List.{append-nil, append_assoc, length-set, length-drop, length-take-le, take-append-drop, take_more_set, drop-set-lt, drop-drop, drop_all, drop_more, drop-replicate}
+-- The words of a line are read from the left, each in its column. Assumes nothing.
+use Rattle.std.proofs.Common.{◌≡◌, ℕ, ◌+◌, ◌-◌, ◌<◌, ◌≤◌, cond, eqb, List, [], ◌∷◌, ◌++◌, length, get_or, take, drop, set, replicate, Some, Ok, Err, Result, sym, refl, ap, ◌∙◌, zero-add, arith}
+use Rattle.std.proofs.lemmas.List.{append-nil, append_assoc, length-set, length-take-le, take-append-drop, take_more_set, drop-set-lt, drop-drop, drop_all, drop_more, drop-replicate}
 use Rattle.std.proofs.lemmas.List.FromFn.{length-enumerate_from, get_or-enumerate_from}
 use Rattle.std.proofs.lemmas.Option.{slice_get_within, get_or_from_slice_get}
-use Rattle.std.proofs.lemmas.Bool.{cond-true, le-leb}
-use Rattle.std.proofs.lemmas.Bool.Decides.{nat_tests}
 use Rattle.std.specs.List.{slice_get, slice_split, onto_first, enumerate_from}
 use Rattle.texts.specs.Lines.{onto, words}
-use Rattle.texts.proofs.Pieces.{before, words_step}
 use Rattle.rows.specs.declared.cell.Cell.{Cell}
 use Rattle.rows.specs.declared.cell.Cell.TheVariants.{Absent}
 use Rattle.rows.specs.declared.cell.Column.{Column}
 use Rattle.rows.specs.declared.cell.WordFault.{WordFault}
-use Rattle.rows.specs.Rows.{words_from, number_in, and_then, cell_of, cells_of, word_stop, padded, row_result}
-
--- ---- words
-
-pub words-from-start : (line : List ℕ) → words_from line 0 ≡ words line
-words-from-start line = cond-true _ _ _ (le-leb 0 (length line) (omega arith))
-
-ltb-leb : (from k n m : ℕ) → from ≤ n → m ≡ n - from → ltb k m ≡ leb (from + k + 1) n
-ltb-leb from k n m within is = grind (arith, nat_tests)
-
-pub words-from-word : (line : List ℕ) (from end : ℕ) → from ≤ length line → end ≡ word_stop line from → words_from line from ≡ take (end - from) (drop from line) ∷ words_from line (end + 1)
-words-from-word line from end within is =
-    let k = before 32 (drop from line) in
-    let stop : end ≡ from + k = omega (arith, is) in
-    let long : k ≡ end - from = omega (arith, stop) in
-    let next : from + (k + 1) ≡ end + 1 = omega (arith, stop) in
-    let test : ltb k (length (drop from line)) ≡ leb (end + 1) (length line) =
-    ltb-leb from k (length line) (length (drop from line)) within (length-drop from line) ∙ (let e : from + k + 1 ≡ end + 1 = omega (arith, stop) in ap (λ n. leb n (length line)) e) in
-    cond-true _ _ _ (le-leb from (length line) within)
-    ∙ words_step (drop from line)
-    ∙ (λ i. take (long i) (drop from line) ∷ cond (test i) (words ((drop-drop (k + 1) from line ∙ ap (λ n. drop n line) next) i)) [])
-
--- ---- cells
+use Rattle.rows.specs.Rows.{number_in, and_then, cell_of, cells_of, padded, row_result}
 
 -- the cells that are read already, before those that are still to be read
 abbrev pub after : List Cell → Result (List Cell) WordFault → Result (List Cell) WordFault
