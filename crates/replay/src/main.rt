@@ -67,14 +67,9 @@ fn driver(heap: Global) -> anyhow::Result<Table> {
     Table::new(100, names, places, edges).context("the bundled part breaks a limit")
 }
 
-// A name as text. Letters are always text, so the other case does not come.
-fn text_of(name: &Name) -> &str {
-    std::str::from_utf8(name.bytes()).unwrap_or("")
-}
-
-fn name_of(part: &Table, event: u8) -> &str {
+fn name_of(part: &Table, event: u8) -> &[u8] {
     let name = part.names().get(usize::from(event));
-    name.map_or("unknown", text_of)
+    name.map_or(&b"unknown"[..], Name::bytes)
 }
 
 // A reading of a part's clocks, each event with the ticks since it last came.
@@ -89,7 +84,7 @@ impl fmt::Display for PartReading<'_> {
     fn fmt<W: fmt::Write>(&self, f: &mut fmt::Formatter<W>) -> fmt::Result {
         let cap = u16::from(self.part.cap());
         for (name, cell) in self.part.names().iter().zip(self.reading.cells) {
-            let name = text_of(name);
+            let name = name.bytes().escape_ascii();
             match cell {
                 None => write!(f, " {name} none")?,
                 Some(ticks) if ticks > cap => write!(f, " {name} {ticks}..")?,
@@ -102,7 +97,7 @@ impl fmt::Display for PartReading<'_> {
 
 fn replay(rt: &impl Print, part: &Table, word: &[Pair]) -> io::Result<()> {
     for (position, pair) in word.iter().enumerate() {
-        let name = name_of(part, pair.event);
+        let name = name_of(part, pair.event).escape_ascii();
         let wait = pair.wait;
         if let Some(reading) = part.reading_at(word, position) {
             println!(rt; "{name} {wait}:{}", PartReading { part, reading })?;

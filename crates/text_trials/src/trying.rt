@@ -91,6 +91,7 @@ trait Lent {
     fn is_blank(&self) -> bool;
 }
 
+// A table has no ==, so that its parts are asked one by one.
 impl Lent for Table {
     fn rows(&self) -> usize {
         self.edges().len()
@@ -137,6 +138,7 @@ fn try_distances(heap: Global, text: &[u8]) -> Outcome {
     Outcome::left_in(&list, came)
 }
 
+// A claim has no ==.
 fn is_untouched(claim: &Claim) -> bool {
     let Claim {
         place,
