@@ -1,5 +1,5 @@
 // What a line of an entries text says, before anyone has judged it: a place, a state and a number or none for each of eight events.
-#[derive(Clone, Copy, Drop)]
+#[derive(Clone, Copy, PartialEq, Eq, Drop, Debug)]
 pub struct Claim {
     pub place: u64,
     pub state: u64,

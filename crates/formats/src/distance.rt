@@ -1,5 +1,5 @@
 // What a line of a distance text says: two events by their numbers, and the least and the most that lies between them.
-#[derive(Clone, Copy, Drop)]
+#[derive(Clone, Copy, PartialEq, Eq, Drop, Debug)]
 pub struct Distance {
     pub on: u8,
     pub since: u8,

@@ -138,22 +138,15 @@ fn try_distances(heap: Global, text: &[u8]) -> Outcome {
     Outcome::left_in(&list, came)
 }
 
-// A claim has no ==.
-fn is_untouched(claim: &Claim) -> bool {
-    let Claim {
-        place,
-        state,
-        cells,
-    } = *claim;
-    place == FILLER && state == FILLER && cells == [Some(FILLER); 8]
-}
-
 // The claims after those of the text are to be untouched, and all of them where it is refused.
 fn try_entries(heap: Global, text: &[u8], room: usize) -> Result<Outcome, AllocError> {
     let table = driver(heap);
     let mut claims = vec![in heap; UNTOUCHED; room]?;
     let rows = read_entries_of(text, &table, claims.as_mut_slice());
-    let kept = claims.iter().skip(rows.unwrap_or(0)).all(is_untouched);
+    let kept = claims
+        .iter()
+        .skip(rows.unwrap_or(0))
+        .all(|claim| *claim == UNTOUCHED);
     Ok(Outcome { rows, kept })
 }
 
