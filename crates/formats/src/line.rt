@@ -1,4 +1,5 @@
 // A line of a text as it stands there: whether it is the last one, and whether byte 10 ends it.
+// Plain data with public fields, so it has no `Model`: contracts read what is judged of it by `line_in`, and its number apart.
 #[derive(Clone, Copy, Drop)]
 pub struct TextLine<'a> {
     pub bytes: &'a [u8],

@@ -92,6 +92,7 @@ pub fn judge_row(
 fn judge_ticks(line: TextLine, rows: SheetRows) -> Result<Option<u16>, LineFault>
     ensures { Says result (tick_in (limits_in rows.limits) rows.count (line_in line.entry)) }
 {
+    // What goes on here is a none within a `Result`, which `?` does not hand on.
     let Some(row) = judge_row(line, rows, RowKind::Tick, &Events::first_eight(&[]))? else {
         return Ok(None);
     };

@@ -18,6 +18,7 @@ fn read_parts(heap: Global, text: &[u8]) -> Result<TableReader, SheetFault>
     Ok(reader)
 }
 
+// This and `list_in` are what is left of a reader after the one walk: each has a type and a promise of its own.
 fn table_in(heap: Global, text: &[u8]) -> Result<Table, SheetFault>
     ensures value { TableRead result text.now }
     ensures one { TableOrFault text.now }

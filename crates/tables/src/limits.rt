@@ -86,7 +86,7 @@ fn lawful_names(names: &[Name]) -> bool
     all_different(names)
 }
 
-// Whether these may be the parts of a table.
+// Whether these may be the parts of a table. They are what `Table::new` takes, and a struct of them would be the table again.
 pub(crate) fn are_lawful(tick: u16, names: &[Name], places: &[Place], edges: &[Edge]) -> bool
     ensures { result ≡ lawful (form tick names.now places.now edges.now) }
 {

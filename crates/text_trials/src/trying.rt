@@ -61,7 +61,7 @@ pub(crate) fn driver(heap: Global) -> Table {
 }
 
 // What came of a text: how many rows its last sheet has if it is taken, or else why not. `kept` says whether the reader left what it has to
-// leave.
+// leave, of a text that is taken and of one that is refused, so that it is no part of either.
 #[derive(Clone, Copy, Drop)]
 struct Outcome {
     rows: Result<usize, SheetFault>,

@@ -47,6 +47,7 @@ pub fn end_from(text: &[u8], from: usize, run: Run) -> usize
 }
 
 // The place of the first byte 10 at or after `from`, or the text's length if there is none.
+// This and `word_end` are names for one function at two runs: what they promise is told without a run.
 pub fn line_end(text: &[u8], from: usize) -> usize
     ensures value { result ≡ line_end text.now from }
     ensures within { result ≤ length text.now }

@@ -1,6 +1,7 @@
 ghost use Rattle.texts.specs.Numbers.{digit, every, numeral, number, read_on};
 ghost use Rattle.std.specs.Prelude.{◌≡◌, true};
 
+// Behind `&&` the check does not find what a chain gives, so this one and that of letters have contracts of their own.
 fn all_digits(word: &[u8]) -> bool
     ensures { result ≡ every digit word.now }
 {
