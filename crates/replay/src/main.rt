@@ -67,14 +67,20 @@ fn driver(heap: Global) -> anyhow::Result<Table> {
     Table::new(100, names, places, edges).context("the bundled part breaks a limit")
 }
 
-// A name as text. Letters are always text, so the other case does not come.
-fn text_of(name: &Name) -> &str {
-    std::str::from_utf8(name.bytes()).unwrap_or("")
+// An event of a part, which need not have one of this number.
+#[derive(Clone, Copy, Drop)]
+struct PartEvent<'a> {
+    part: &'a Table,
+    event: u8,
 }
 
-fn name_of(part: &Table, event: u8) -> &str {
-    let name = part.names().get(usize::from(event));
-    name.map_or("unknown", text_of)
+impl fmt::Display for PartEvent<'_> {
+    fn fmt<W: fmt::Write>(&self, f: &mut fmt::Formatter<W>) -> fmt::Result {
+        match self.part.names().get(usize::from(self.event)) {
+            None => write!(f, "unknown"),
+            Some(name) => write!(f, "{name}"),
+        }
+    }
 }
 
 // A reading of a part's clocks, each event with the ticks since it last came.
@@ -89,7 +95,6 @@ impl fmt::Display for PartReading<'_> {
     fn fmt<W: fmt::Write>(&self, f: &mut fmt::Formatter<W>) -> fmt::Result {
         let cap = u16::from(self.part.cap());
         for (name, cell) in self.part.names().iter().zip(self.reading.cells) {
-            let name = text_of(name);
             match cell {
                 None => write!(f, " {name} none")?,
                 Some(ticks) if ticks > cap => write!(f, " {name} {ticks}..")?,
@@ -102,10 +107,10 @@ impl fmt::Display for PartReading<'_> {
 
 fn replay(rt: &impl Print, part: &Table, word: &[Pair]) -> io::Result<()> {
     for (position, pair) in word.iter().enumerate() {
-        let name = name_of(part, pair.event);
-        let wait = pair.wait;
+        let Pair { event, wait } = *pair;
+        let event = PartEvent { part, event };
         if let Some(reading) = part.reading_at(word, position) {
-            println!(rt; "{name} {wait}:{}", PartReading { part, reading })?;
+            println!(rt; "{event} {wait}:{}", PartReading { part, reading })?;
         }
     }
     let answer = if part.behaves(word) {
