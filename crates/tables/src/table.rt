@@ -8,7 +8,6 @@ use meaning::values::{Edge, Place};
 
 pub mod behaving;
 pub mod making;
-mod roles;
 
 // An event-recording automaton: the length of its tick in milliseconds, its events by name, its places and its edges.
 // It is lawful or blank, and keeps its cap, the largest number in its bounds.

@@ -1,12 +1,10 @@
 ghost use Rattle.tables.specs.Held.{contents};
-ghost use Rattle.tables.specs.Roles.{plays};
 ghost use Rattle.meaning.specs.Stepping.{starts, finals, places_from, in_set, leaves, targets, reached, cap_of, advanced, restarted, never, cells_after, CappedReads};
 ghost use Rattle.meaning.specs.Tables.{Behaviour};
-ghost use Rattle.std.specs.Prelude.{◌≡◌, ◌<◌, ◌≤◌, length, Decides, MatchOption};
+ghost use Rattle.std.specs.Prelude.{◌≡◌, ◌<◌, ◌≤◌, Bool, length, Decides, MatchOption};
 ghost use mathlib.Core.List.{Memᴰ};
 
 use crate::table::Table;
-use crate::table::roles::Role;
 use clocks::reading::Reading;
 use meaning::values::{Edge, Pair, Place};
 
@@ -17,23 +15,15 @@ struct Front {
     reading: Reading,
 }
 
-fn is_played_by(role: Role, place: Place) -> bool
-    ensures { result ≡ plays role place }
-{
-    match role {
-        Role::Start => place.start,
-        Role::Accepting => place.accepting,
-    }
-}
-
-// The set of the places in a role. A set of places is a number in which place p counts 2^p.
-fn places_in_role(places: &[Place], role: Role) -> u32
-    requires { length places.now ≤ 32 }
-    ensures { result ≡ places_from (plays role) 0 places.now }
+// The set of the places that pass the test. A set of places is a number in which place p counts 2^p.
+fn places_where<F: Fn(Place) -> bool>(places: &[Place], test: F) -> u32
+    requires few { length places.now ≤ 32 }
+    requires callable { F.IsAlwaysCallable test }
+    ensures { (t : Place → Bool) → ((p : Place) (r : Bool) → F.post test p r → r ≡ t p) → result ≡ places_from t 0 places.now }
 {
     let mut set = 0;
     for (p, place) in places.iter().enumerate() {
-        if is_played_by(role, *place) {
+        if test(*place) {
             set |= 1u32 << p;
         }
     }
@@ -73,14 +63,14 @@ impl Table {
     pub fn starts(&self) -> u32
         ensures { result ≡ starts (contents self.now).places }
     {
-        places_in_role(self.places(), Role::Start)
+        places_where(self.places(), |place| place.start)
     }
 
     // The set of the places where a computation may end.
     pub fn finals(&self) -> u32
         ensures { result ≡ finals (contents self.now).places }
     {
-        places_in_role(self.places(), Role::Accepting)
+        places_where(self.places(), |place| place.accepting)
     }
 
     // The targets of all edges that leave the set under the event and the reading.
