@@ -8,7 +8,7 @@ use crate::table::Table;
 use clocks::reading::Reading;
 use meaning::values::{Edge, Pair, Place};
 
-// How far a walk along a word has come: the places reached, and the reading after the last pair.
+// How far a walk along a word has come: the places reached, and the reading there.
 #[derive(Clone, Copy, Drop)]
 struct Front {
     set: u32,
@@ -37,21 +37,21 @@ fn is_in_set(set: u32, place: u8) -> bool
     (set >> place) & 1 == 1
 }
 
-// Whether the edge leaves the set of places under the event and the reading.
-fn leaves_set(edge: &Edge, set: u32, event: u8, reading: &Reading) -> bool
+// Whether the edge leaves the front under the event.
+fn leaves_front(edge: &Edge, front: &Front, event: u8) -> bool
     requires { edge.now.source < 32 }
-    ensures { result ≡ leaves edge.now set event reading.now.cells }
+    ensures { result ≡ leaves edge.now front.now.set event front.now.reading.cells }
 {
-    edge.event == event && is_in_set(set, edge.source) && reading.meets(&edge.bounds)
+    edge.event == event && is_in_set(front.set, edge.source) && front.reading.meets(&edge.bounds)
 }
 
-fn targets_of(edges: &[Edge], set: u32, event: u8, reading: &Reading) -> u32
+fn targets_of(edges: &[Edge], front: &Front, event: u8) -> u32
     requires { (e : Edge) → Memᴰ e edges.now → (e.source < 32) × (e.target < 32) }
-    ensures { result ≡ targets edges.now set event reading.now.cells }
+    ensures { result ≡ targets edges.now front.now.set event front.now.reading.cells }
 {
     let mut reached = 0;
     for edge in edges {
-        if leaves_set(edge, set, event, reading) {
+        if leaves_front(edge, front, event) {
             reached |= 1u32 << edge.target;
         }
     }
@@ -77,7 +77,11 @@ impl Table {
     pub fn targets(&self, set: u32, event: u8, reading: &Reading) -> u32
         ensures { result ≡ targets (contents self.now).edges set event reading.now.cells }
     {
-        targets_of(self.edges(), set, event, reading)
+        let front = Front {
+            set,
+            reading: *reading,
+        };
+        targets_of(self.edges(), &front, event)
     }
 
     // One pair further: the wait passes, the edges take the event, and only then the event's own clock restarts.
