@@ -67,9 +67,20 @@ fn driver(heap: Global) -> anyhow::Result<Table> {
     Table::new(100, names, places, edges).context("the bundled part breaks a limit")
 }
 
-fn name_of(part: &Table, event: u8) -> &[u8] {
-    let name = part.names().get(usize::from(event));
-    name.map_or(&b"unknown"[..], Name::bytes)
+// An event of a part, which need not have one of this number.
+#[derive(Clone, Copy, Drop)]
+struct PartEvent<'a> {
+    part: &'a Table,
+    event: u8,
+}
+
+impl fmt::Display for PartEvent<'_> {
+    fn fmt<W: fmt::Write>(&self, f: &mut fmt::Formatter<W>) -> fmt::Result {
+        match self.part.names().get(usize::from(self.event)) {
+            None => write!(f, "unknown"),
+            Some(name) => write!(f, "{name}"),
+        }
+    }
 }
 
 // A reading of a part's clocks, each event with the ticks since it last came.
@@ -84,7 +95,6 @@ impl fmt::Display for PartReading<'_> {
     fn fmt<W: fmt::Write>(&self, f: &mut fmt::Formatter<W>) -> fmt::Result {
         let cap = u16::from(self.part.cap());
         for (name, cell) in self.part.names().iter().zip(self.reading.cells) {
-            let name = name.bytes().escape_ascii();
             match cell {
                 None => write!(f, " {name} none")?,
                 Some(ticks) if ticks > cap => write!(f, " {name} {ticks}..")?,
@@ -97,10 +107,10 @@ impl fmt::Display for PartReading<'_> {
 
 fn replay(rt: &impl Print, part: &Table, word: &[Pair]) -> io::Result<()> {
     for (position, pair) in word.iter().enumerate() {
-        let name = name_of(part, pair.event).escape_ascii();
-        let wait = pair.wait;
+        let Pair { event, wait } = *pair;
+        let event = PartEvent { part, event };
         if let Some(reading) = part.reading_at(word, position) {
-            println!(rt; "{name} {wait}:{}", PartReading { part, reading })?;
+            println!(rt; "{event} {wait}:{}", PartReading { part, reading })?;
         }
     }
     let answer = if part.behaves(word) {

@@ -1,4 +1,3 @@
 pub mod Lawful
 pub mod Forms
 pub mod Held
-pub mod Roles

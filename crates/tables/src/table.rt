@@ -8,10 +8,10 @@ use meaning::values::{Edge, Place};
 
 pub mod behaving;
 pub mod making;
-mod roles;
 
 // An event-recording automaton: the length of its tick in milliseconds, its events by name, its places and its edges.
 // It is lawful or blank, and keeps its cap, the largest number in its bounds.
+// Ghost fields and no `impl Model`: of a value with a model, callers know its Value and not its invariant. Of any table they know these fields; sheets takes from `lawful` that the names are lawful, different and at most eight.
 #[derive(Drop)]
 pub struct Table {
     tick: u16,

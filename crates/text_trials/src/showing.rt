@@ -30,7 +30,7 @@ fn show_edge(rt: &impl Print, edge: &Edge) -> io::Result<()> {
 fn show_table(rt: &impl Print, table: &Table) -> io::Result<()> {
     println!(rt; "tick {}", table.tick())?;
     for name in table.names() {
-        println!(rt; "event {}", name.bytes().escape_ascii())?;
+        println!(rt; "event {name}")?;
     }
     for Place { start, accepting } in table.places() {
         println!(rt; "place: start {start}, final {accepting}")?;

@@ -1,39 +1,29 @@
 ghost use Rattle.tables.specs.Held.{contents};
-ghost use Rattle.tables.specs.Roles.{plays};
 ghost use Rattle.meaning.specs.Stepping.{starts, finals, places_from, in_set, leaves, targets, reached, cap_of, advanced, restarted, never, cells_after, CappedReads};
 ghost use Rattle.meaning.specs.Tables.{Behaviour};
-ghost use Rattle.std.specs.Prelude.{◌≡◌, ◌<◌, ◌≤◌, length, Decides, MatchOption};
+ghost use Rattle.std.specs.Prelude.{◌≡◌, ◌<◌, ◌≤◌, Bool, length, Decides, MatchOption};
 ghost use mathlib.Core.List.{Memᴰ};
 
 use crate::table::Table;
-use crate::table::roles::Role;
 use clocks::reading::Reading;
 use meaning::values::{Edge, Pair, Place};
 
-// How far a walk along a word has come: the places reached, and the reading after the last pair.
+// How far a walk along a word has come: the places reached, and the reading there.
 #[derive(Clone, Copy, Drop)]
 struct Front {
     set: u32,
     reading: Reading,
 }
 
-fn is_played_by(role: Role, place: Place) -> bool
-    ensures { result ≡ plays role place }
-{
-    match role {
-        Role::Start => place.start,
-        Role::Accepting => place.accepting,
-    }
-}
-
-// The set of the places in a role. A set of places is a number in which place p counts 2^p.
-fn places_in_role(places: &[Place], role: Role) -> u32
-    requires { length places.now ≤ 32 }
-    ensures { result ≡ places_from (plays role) 0 places.now }
+// The set of the places that pass the test. A set of places is a number in which place p counts 2^p.
+fn places_where<F: Fn(Place) -> bool>(places: &[Place], test: F) -> u32
+    requires few { length places.now ≤ 32 }
+    requires callable { F.IsAlwaysCallable test }
+    ensures { (t : Place → Bool) → ((p : Place) (r : Bool) → F.post test p r → r ≡ t p) → result ≡ places_from t 0 places.now }
 {
     let mut set = 0;
     for (p, place) in places.iter().enumerate() {
-        if is_played_by(role, *place) {
+        if test(*place) {
             set |= 1u32 << p;
         }
     }
@@ -47,21 +37,21 @@ fn is_in_set(set: u32, place: u8) -> bool
     (set >> place) & 1 == 1
 }
 
-// Whether the edge leaves the set of places under the event and the reading.
-fn leaves_set(edge: &Edge, set: u32, event: u8, reading: &Reading) -> bool
+// Whether the edge leaves the front under the event.
+fn leaves_front(edge: &Edge, front: &Front, event: u8) -> bool
     requires { edge.now.source < 32 }
-    ensures { result ≡ leaves edge.now set event reading.now.cells }
+    ensures { result ≡ leaves edge.now front.now.set event front.now.reading.cells }
 {
-    edge.event == event && is_in_set(set, edge.source) && reading.meets(&edge.bounds)
+    edge.event == event && is_in_set(front.set, edge.source) && front.reading.meets(&edge.bounds)
 }
 
-fn targets_of(edges: &[Edge], set: u32, event: u8, reading: &Reading) -> u32
+fn targets_of(edges: &[Edge], front: &Front, event: u8) -> u32
     requires { (e : Edge) → Memᴰ e edges.now → (e.source < 32) × (e.target < 32) }
-    ensures { result ≡ targets edges.now set event reading.now.cells }
+    ensures { result ≡ targets edges.now front.now.set event front.now.reading.cells }
 {
     let mut reached = 0;
     for edge in edges {
-        if leaves_set(edge, set, event, reading) {
+        if leaves_front(edge, front, event) {
             reached |= 1u32 << edge.target;
         }
     }
@@ -73,21 +63,25 @@ impl Table {
     pub fn starts(&self) -> u32
         ensures { result ≡ starts (contents self.now).places }
     {
-        places_in_role(self.places(), Role::Start)
+        places_where(self.places(), |place| place.start)
     }
 
     // The set of the places where a computation may end.
     pub fn finals(&self) -> u32
         ensures { result ≡ finals (contents self.now).places }
     {
-        places_in_role(self.places(), Role::Accepting)
+        places_where(self.places(), |place| place.accepting)
     }
 
     // The targets of all edges that leave the set under the event and the reading.
     pub fn targets(&self, set: u32, event: u8, reading: &Reading) -> u32
         ensures { result ≡ targets (contents self.now).edges set event reading.now.cells }
     {
-        targets_of(self.edges(), set, event, reading)
+        let front = Front {
+            set,
+            reading: *reading,
+        };
+        targets_of(self.edges(), &front, event)
     }
 
     // One pair further: the wait passes, the edges take the event, and only then the event's own clock restarts.
