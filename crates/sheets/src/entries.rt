@@ -67,7 +67,7 @@ fn fill_claims(text: &[u8], events: &Events<'_>, claims: &mut [Claim])
 {
     let room = claims.len();
     let mut stage = EntryStage::Head;
-    // How many claims there are so far. A zip of claims and lines would keep no count, but tells a proof nothing of what was written.
+    // How many claims there are so far, for which a line's judge asks; so the next one's place needs no other count.
     let mut count = 0;
     for line in Lines::new(text) {
         match entry_line(stage, count, room, events, line) {
