@@ -17,7 +17,7 @@ abbrev pub FailsOr : {S E : Type 0} → Type 0 → Result S E → Option E → T
 FailsOr lacks d None = lacks
 FailsOr lacks d (Some e) = d ≡ Err e
 
--- The same, where memory may be wanting only if `lacks` holds.
+-- As `Leads`, where memory may be wanting only if `lacks` holds.
 abbrev pub TakesLine : {S : Type 0} → Type 0 → Result (Unit {0}) LineFault → S → Result S ℕ → Type 0
 TakesLine lacks (Ok _) after d = d ≡ Ok after
 TakesLine lacks (Err e) after d = FailsOr lacks d (line_number e)

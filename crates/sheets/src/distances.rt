@@ -25,6 +25,7 @@ fn read_parts<'a>(
     Ok(reader)
 }
 
+// As short as `table_in`, of another type and with another promise.
 fn list_in(heap: Global, text: &[u8], table: &Table) -> Result<DistanceList, SheetFault>
     ensures value { ListRead result (contents table.now).names text.now }
     ensures one { DistancesOrFault (contents table.now).names text.now }

@@ -36,7 +36,7 @@ impl TableReader {
         }
     }
 
-    // The table of all that was read. Where that is lawful, the blank table does not come.
+    // The table of all that was read. Where that is lawful, neither tick 0 nor the blank table comes.
     pub(crate) fn table(self, heap: Global) -> Table
         requires { lawful (held (parts_of self)) ≡ true }
         ensures { contents result ≡ held (parts_of self) }

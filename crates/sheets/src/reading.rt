@@ -32,6 +32,7 @@ pub(crate) trait LineReader {
         ensures line { TakesLine Lacks result (parts self.new) (step self.old (parts self.old) (line_in line.entry)) }
         ensures same { step self.new ≡ step self.old };
 
+    // A line that is taken leaves it so.
     ghost keeps: { (r : Self) (s t : Parts) (l : Line) → Good s → step r s l ≡ Ok t → Good t };
 }
 
@@ -42,9 +43,9 @@ fn read_lines<R: LineReader>(reader: &mut R, text: &[u8]) -> Result<(), SheetFau
     ensures { TakesText R.Lacks result (R.parts reader.new) (walk (R.step reader.old) (ended text.now) (R.parts reader.old) 1 (lines text.now)) }
 {
     for line in Lines::new(text) {
-        if let Err(fault) = reader.line(line) {
-            return Err(fault.at_line(line.number));
-        }
+        reader
+            .line(line)
+            .map_err(|fault| fault.at_line(line.number))?;
     }
     Ok(())
 }

@@ -33,7 +33,7 @@ impl<'a> DistanceReader<'a> {
         }
     }
 
-    // The list of all that was read, for so many events.
+    // The list of all that was read, for so many events. What is lawful has a tick, so the 0 does not come.
     pub(crate) fn list(self, events: u8) -> DistanceList
         requires some { 1 ≤ events }
         requires few { events ≤ 8 }
