@@ -94,11 +94,8 @@ pub fn judge_row(
 fn judge_ticks(line: TextLine, rows: SheetRows) -> Result<Option<u16>, LineFault>
     ensures { Says result (tick_in (limits_in rows.limits) rows.count (line_in line.entry)) }
 {
-    // What goes on here is a none within a `Result`, which `?` does not hand on.
-    let Some(row) = judge_row(line, rows, RowKind::Tick, &Events::first_eight(&[]))? else {
-        return Ok(None);
-    };
-    Ok(Some(number_in(row.cells[0]) as u16))
+    let row = judge_row(line, rows, RowKind::Tick, &Events::first_eight(&[]))?;
+    Ok(row.map(|row| number_in(row.cells[0]) as u16))
 }
 
 // A line among the rows of the tick sheet, which has one row and is followed by `more` sheets.
