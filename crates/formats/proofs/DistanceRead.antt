@@ -15,9 +15,10 @@ use Rattle.formats.specs.declared.distance.DistanceStage.TheVariants.{TickHead, 
 use Rattle.formats.specs.Walk.{Line}
 use Rattle.formats.specs.TableText.{head_is, tick_head}
 use Rattle.formats.specs.DistanceText.{lawful_distance, lawful_distances, line_head, distance_cells, distance_rows, distance_lines, distance_text, DistanceParts, distance_start, distances_held, distance_at, distance_from, with_distance_tick, with_distance, distance_tick_limits, line_limits, distance_step_at, distance_step, read_distances}
+use Rattle.formats.specs.TableGood.{Ticked, OneTick}
 use Rattle.formats.proofs.Steps.{head-taken, row-taken}
 use Rattle.formats.proofs.Columns.{within-is, event-is, split, none_left}
-use Rattle.formats.proofs.Taken.{every-push, head-is, rows-push, ended-when-fine, none-lacks, tick_lines, Ticked, OneTick, one-tick, tick-head-is, tick-taken, taken-was-walked}
+use Rattle.formats.proofs.Taken.{every-push, head-is, rows-push, ended-when-fine, none-lacks, tick_lines, one-tick, tick-head-is, tick-taken, taken-was-walked}
 
 -- ---- one distance
 

@@ -21,9 +21,10 @@ use Rattle.formats.specs.declared.stage.Stage.{Stage}
 use Rattle.formats.specs.declared.stage.Stage.TheVariants.{TickHead, TickRows, PlaceHead, PlaceRows, EdgeHead, EdgeRows}
 use Rattle.formats.specs.Walk.{Line}
 use Rattle.formats.specs.TableText.{Parts, at, with_tick, with_place, with_names, with_edge, head_is, names_wrong, edge_head_wrong, place_from, edge_from, step_at, table_step, start, held, tick_head, place_head, edge_head, place_cells, place_lines, edge_cells, edge_lines, table_lines, table_text, read_table, tick_limits, place_limits, edge_limits}
+use Rattle.formats.specs.TableGood.{GoodAt}
 use Rattle.formats.proofs.Steps.{head-taken, row-taken}
 use Rattle.formats.proofs.Columns.{place-row, EdgeRow, edge_row}
-use Rattle.formats.proofs.Taken.{every-push, map_back, head-is, rows-push, ended-when-fine, none-lacks, tick_lines, Ticked, OneTick, one-tick, tick-head-is, tick-taken, taken-was-walked}
+use Rattle.formats.proofs.Taken.{every-push, map_back, head-is, rows-push, ended-when-fine, none-lacks, tick_lines, one-tick, tick-head-is, tick-taken, taken-was-walked}
 
 -- ---- the lines that have been read, from what was read of them
 
@@ -43,18 +44,6 @@ so_far_at PlaceHead s = front s ++ ([] ∷ [])
 so_far_at PlaceRows s = front s ++ middle s
 so_far_at EdgeHead s = (front s ++ middle s) ++ ([] ∷ [])
 so_far_at EdgeRows s = (front s ++ middle s) ++ back s
-
--- ---- what is kept of the parts, stage by stage
-
-abbrev pub GoodAt : Stage → Parts → Type 0
-GoodAt TickHead s = (s.ticks ≡ []) × (s.places ≡ []) × (s.edges ≡ [])
-GoodAt TickRows s = Ticked s.ticks × (s.places ≡ []) × (s.edges ≡ [])
-GoodAt PlaceHead s = OneTick s.ticks × (s.places ≡ []) × (s.edges ≡ [])
-GoodAt PlaceRows s = OneTick s.ticks × (length s.places ≤ 32) × (s.edges ≡ [])
-GoodAt EdgeHead s = OneTick s.ticks × ((1 ≤ length s.places) × (length s.places ≤ 32)) × (s.edges ≡ [])
-GoodAt EdgeRows s =
-    OneTick s.ticks × ((1 ≤ length s.places) × (length s.places ≤ 32)) × (lawful_names s.names ≡ true)
-    × ((length s.edges ≤ 64) × (every (lawful_edge (length s.names) (length s.places)) s.edges ≡ true))
 
 -- ---- places, and the head of the edges
 

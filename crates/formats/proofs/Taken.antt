@@ -15,6 +15,7 @@ use Rattle.rows.proofs.Outcomes.{never-ok, same-from-ok}
 use Rattle.rows.proofs.Rows.{row-is-written}
 use Rattle.formats.specs.Walk.{Refusal, Line, Limits, empty, misspaced, lacks_sheet, row_step, line_here, at_line, walk, checked, reading}
 use Rattle.formats.specs.TableText.{head_is, tick_head}
+use Rattle.formats.specs.TableGood.{Ticked, OneTick}
 use Rattle.formats.proofs.Steps.{SheetEnded, row-taken, walk-keeps}
 use Rattle.formats.proofs.Columns.{tick-row}
 
@@ -57,16 +58,6 @@ none-lacks more l last h some = false≢true (sym h ∙ and_from l.last (ltb 0 m
 
 abbrev pub tick_lines : List ℕ → List (List ℕ)
 tick_lines ticks = map (λ n. row_line [] (Number n ∷ [])) ticks
-
--- at most one tick, in range
-abbrev pub Ticked : List ℕ → Type 0
-Ticked [] = Unit {0}
-Ticked (n ∷ []) = (1 ≤ n) × (n ≤ 60000)
-Ticked (n ∷ m ∷ ns) = ⊥
-
--- one tick, in range
-abbrev pub OneTick : List ℕ → Type 0
-OneTick ticks = Ticked ticks × (1 ≤ length ticks)
 
 pub one-tick : (ticks : List ℕ) → OneTick ticks → (ticks ≡ get_or ticks 0 0 ∷ []) × ((leb 1 (get_or ticks 0 0) && leb (get_or ticks 0 0) 60000) ≡ true)
 one-tick [] one = absurd (omega (arith, one.1))

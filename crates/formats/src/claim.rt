@@ -7,6 +7,7 @@ pub struct Claim {
 }
 
 // Where in an entries text the next line stands: at the head or among the rows.
+// Not one enum with the stages of the other texts: see `Stage`.
 #[derive(Clone, Copy, Drop)]
 pub enum EntryStage {
     Head,

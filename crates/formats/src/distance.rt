@@ -8,6 +8,7 @@ pub struct Distance {
 }
 
 // Where in a distance text the next line stands: at the head or among the rows of one of its two sheets.
+// Not one enum with the stages of the other texts: see `Stage`.
 #[derive(Clone, Copy, Drop)]
 pub enum DistanceStage {
     TickHead,

@@ -13,7 +13,7 @@ pub struct Refusal {
 }
 
 // Why a text of sheets is not taken. The first case holds the fault of the text itself; want of memory says nothing of the text.
-#[derive(Clone, Copy, Drop, PartialEq, Debug)]
+#[derive(Clone, Copy, Drop, PartialEq, Eq, Debug)]
 pub enum SheetFault {
     Text(TextFault),
     // A wrong head, a bad event name, or a sheet lacks.
@@ -65,6 +65,7 @@ impl SheetFault {
             SheetFault::Word { line } => (5, *line),
             SheetFault::Range { line } => (6, *line),
             SheetFault::Count { line } => (7, *line),
+            // One case tells none. A `Some` around each of the five others, or an `Option` of the pair and a `map`, is no plainer.
             SheetFault::Memory => return None,
         };
         Some(Refusal { number, line })

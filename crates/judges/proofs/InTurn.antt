@@ -1,6 +1,6 @@
 -- One line of a text after the other: what is left, and where the line stands. Assumes nothing.
 use Rattle.std.proofs.Common.{◌≡◌, ℕ, zero, suc, ◌+◌, ◌-◌, ◌<◌, ◌≤◌, Bool, true, false, cond, not, ◌||◌, eqb, ltb, leb, List, [], ◌∷◌, length, drop, sym, refl, ap, ◌∙◌, ⊎_elim, arith}
-use Rattle.std.proofs.lemmas.List.{drop_all, length-drop}
+use Rattle.std.proofs.lemmas.List.{length-drop}
 use Rattle.std.proofs.lemmas.List.Sums.{prefix_len-le-length}
 use Rattle.std.proofs.lemmas.Bool.{cases_Bool, cases_lt, lt-ltb, le-ltb, lt-leb, le-leb}
 use Rattle.texts.specs.Lines.{lines, onto, ended, ended_after, in_line, line_end}
@@ -16,9 +16,6 @@ some-not-nil (x ∷ xs) h = refl
 nil-lines : (s : List ℕ) → is_nil (lines s) ≡ leb (length s) 0
 nil-lines [] = refl
 nil-lines (b ∷ s) = some-not-nil (lines (b ∷ s)) (some-line b s) ∙ sym (lt-leb (suc (length s)) 0 (omega arith))
-
-pub none_left : (t : List ℕ) (at : ℕ) → length t ≤ at → lines (drop at t) ≡ []
-none_left t at past = ap lines (drop_all at t past)
 
 -- ---- whether the last line is ended
 

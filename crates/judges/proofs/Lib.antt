@@ -4,3 +4,4 @@ pub mod EntryHeads
 pub mod EntryRows
 pub mod InTurn
 pub mod HeadWords
+pub mod Spacing

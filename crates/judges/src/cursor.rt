@@ -1,6 +1,6 @@
-ghost use Rattle.judges.specs.Cursor.{StandsAt, Starts, Steps, left};
+ghost use Rattle.judges.specs.Cursor.{Here, StandsAt, Starts, Steps, left};
 ghost use Rattle.std.specs.Iterator.{item_count};
-ghost use Rattle.std.specs.Prelude.{◌≡◌, length, nat_lt};
+ghost use Rattle.std.specs.Prelude.{◌≡◌, ◌<◌, length, nat_lt};
 
 use formats::line::TextLine;
 use texts::lines::line_end;
@@ -21,20 +21,25 @@ fn is_ended(text: &[u8], end: usize) -> bool
     end < text.len()
 }
 
-// The line at a place; none at the end of the text.
-fn line_from(text: &[u8], at: usize, number: u32) -> Option<TextLine<'_>>
-    ensures { StandsAt text.now at number result }
+// The line at a place in the text.
+fn line_at(text: &[u8], at: usize, number: u32) -> TextLine<'_>
+    requires { at < length text.now }
+    ensures { Here text.now at number result }
 {
-    if at >= text.len() {
-        return None;
-    }
     let end = line_end(text, at);
-    Some(TextLine {
+    TextLine {
         bytes: &text[at..end],
         last: end + 1 >= text.len(),
         ended: is_ended(text, end),
         number,
-    })
+    }
+}
+
+// The line at a place; none at the end of the text.
+fn line_from(text: &[u8], at: usize, number: u32) -> Option<TextLine<'_>>
+    ensures { StandsAt text.now at number result }
+{
+    (at < text.len()).then(|| line_at(text, at, number))
 }
 
 impl<'a> Lines<'a> {

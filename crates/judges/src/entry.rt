@@ -8,7 +8,7 @@ ghost use Rattle.std.specs.Option.{MatchOption};
 ghost use Rattle.std.specs.Str.{bytes_eq};
 ghost use Rattle.std.specs.Prelude.{◌≡◌, false, map, [], None};
 
-use crate::judging::is_misspaced;
+use crate::judging::check_spacing;
 use clocks::events::Events;
 use clocks::name::Name;
 use formats::claim::{Claim, EntryStage};
@@ -38,9 +38,7 @@ fn is_entry_head(line: &[u8], events: &Events<'_>) -> bool
 fn head_line(events: &Events<'_>, line: TextLine) -> Result<Option<Claim>, LineFault>
     ensures { Says result (head_step 0 (head_is (entry_head events.now) line.entry.bytes.now) (line_in line.entry) None) }
 {
-    if is_misspaced(line) {
-        return Err(LineFault::Spacing);
-    }
+    check_spacing(line)?;
     if !is_entry_head(line.bytes, events) {
         return Err(LineFault::Head);
     }
@@ -55,9 +53,7 @@ fn row_line(
 ) -> Result<Claim, LineFault>
     ensures { Says result (entry_row events.now room count (line_in line.entry)) }
 {
-    if is_misspaced(line) {
-        return Err(LineFault::Spacing);
-    }
+    check_spacing(line)?;
     if count >= room {
         return Err(LineFault::Count);
     }

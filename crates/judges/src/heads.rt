@@ -10,7 +10,7 @@ ghost use Rattle.std.specs.Prelude.{◌≡◌, ℕ, not, ◌&&◌, List, map, dr
 ghost use Rattle.std.specs.Option.{option_map};
 ghost use Rattle.std.specs.Str.{bytes_eq};
 
-use crate::judging::is_misspaced;
+use crate::judging::check_spacing;
 use clocks::name::Name;
 use clocks::search::position;
 use formats::fault::LineFault;
@@ -41,9 +41,7 @@ fn names_of(heap: Global, part: &[u8]) -> Result<Vec<Name>, LineFault>
 pub fn judge_edge_head(heap: Global, line: TextLine) -> Result<Vec<Name>, LineFault>
     ensures { Agrees (λ v. map text v.items) result (head_step 0 (edge_head_wrong (words line.entry.bytes.now)) (line_in line.entry) (drop 3 (words line.entry.bytes.now))) }
 {
-    if is_misspaced(line) {
-        return Err(LineFault::Spacing);
-    }
+    check_spacing(line)?;
     names_in(heap, line.bytes)
 }
 

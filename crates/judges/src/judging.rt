@@ -2,6 +2,7 @@ ghost use Rattle.formats.specs.Faults.{Agrees, line_in, limits_in};
 ghost use Rattle.formats.specs.EntryLines.{Says};
 ghost use Rattle.formats.specs.TableText.{head_is, tick_in, tick_judged};
 ghost use Rattle.formats.specs.Walk.{empty, misspaced, lacks_sheet, head_step, row_step};
+ghost use Rattle.formats.specs.declared.fault.LineFault.TheVariants.{Spacing};
 ghost use Rattle.rows.specs.Rows.{padded};
 ghost use Rattle.std.specs.Option.{option_map};
 ghost use Rattle.std.specs.Prelude.{◌≡◌, ◌&&◌, ltb, if◌then◌else◌, Some, None, Ok, Err, nat_lt};
@@ -15,10 +16,15 @@ use rows::line::read_row;
 use rows::word::is_word;
 use texts::words::is_spaced;
 
-pub(crate) fn is_misspaced(line: TextLine) -> bool
-    ensures { result ≡ misspaced (line_in line.entry) }
+// A line has to be spaced and ended.
+pub(crate) fn check_spacing(line: TextLine) -> Result<(), LineFault>
+    ensures { result ≡ (if misspaced (line_in line.entry) then Err Spacing else Ok (tt {0})) }
 {
-    !(is_spaced(line.bytes) && line.ended)
+    if is_spaced(line.bytes) && line.ended {
+        Ok(())
+    } else {
+        Err(LineFault::Spacing)
+    }
 }
 
 // The last line, with sheets still to come.
@@ -33,9 +39,7 @@ pub fn judge_head(line: TextLine, more: usize, head: &[u8]) -> Result<(), LineFa
     ensures says { Says result (head_step more (head_is head.now line.entry.bytes.now) (line_in line.entry) (tt {0})) }
     ensures agrees { Agrees (λ _. tt {0}) result (head_step more (head_is head.now line.entry.bytes.now) (line_in line.entry) (tt {0})) }
 {
-    if is_misspaced(line) {
-        return Err(LineFault::Spacing);
-    }
+    check_spacing(line)?;
     if lacks_sheet(line, more) || !is_word(line.bytes, head) {
         return Err(LineFault::Head);
     }
@@ -76,9 +80,7 @@ pub fn judge_row(
     if ends_sheet(line, rows.limits) {
         return judge_end(line, rows);
     }
-    if is_misspaced(line) {
-        return Err(LineFault::Spacing);
-    }
+    check_spacing(line)?;
     if lacks_sheet(line, rows.limits.more) {
         return Err(LineFault::Head);
     }
@@ -92,11 +94,8 @@ pub fn judge_row(
 fn judge_ticks(line: TextLine, rows: SheetRows) -> Result<Option<u16>, LineFault>
     ensures { Says result (tick_in (limits_in rows.limits) rows.count (line_in line.entry)) }
 {
-    // What goes on here is a none within a `Result`, which `?` does not hand on.
-    let Some(row) = judge_row(line, rows, RowKind::Tick, &Events::first_eight(&[]))? else {
-        return Ok(None);
-    };
-    Ok(Some(number_in(row.cells[0]) as u16))
+    let row = judge_row(line, rows, RowKind::Tick, &Events::first_eight(&[]))?;
+    Ok(row.map(|row| number_in(row.cells[0]) as u16))
 }
 
 // A line among the rows of the tick sheet, which has one row and is followed by `more` sheets.

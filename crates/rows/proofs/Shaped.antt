@@ -13,7 +13,7 @@ use Rattle.rows.specs.declared.cell.Column.TheVariants.{Within, NotBelow, YesOrN
 use Rattle.rows.specs.declared.cell.WordFault.{WordFault}
 use Rattle.rows.specs.declared.cell.WordFault.TheVariants.{Misfit}
 use Rattle.rows.specs.Rows.{numbered, ranged, bounded, cell_of}
-use Rattle.rows.specs.Pieces.{limit_from, limit_between, limit_of_parts, cell_from}
+use Rattle.rows.specs.Pieces.{limit_from, limit_between, limit_of_parts, cell_from_token}
 use Rattle.rows.proofs.Sought.{same_word}
 
 none_from : {X : Type 0} (o : Option X) → ((x : X) → o ≡ Some x → ⊥) → o ≡ None
@@ -43,7 +43,7 @@ misfit : (f : ℕ → Result Cell WordFault) (w : List ℕ) → number w ≡ Non
 misfit f w none = simp none
 
 by_name : (c : Column) (names : List (List ℕ)) (before : ℕ) (w : List ℕ) (line : ℕ) → (c ≡ EventName → ⊥) → number w ≡ None → bound_of w ≡ None
-    → cell_from c before (a_name w line) ≡ cell_of c names before w
+    → cell_from_token c before (a_name w line) ≡ cell_of c names before w
 by_name (Within least most) names before w line no-event none unbound = misfit (ranged least most) w none
 by_name (NotBelow most) names before w line no-event none unbound = misfit (ranged before most) w none
 by_name YesOrNo names before w line no-event none unbound = refl
@@ -53,7 +53,7 @@ by_name Limit names before w line no-event none unbound =
 by_name NumberOrNone names before w line no-event none unbound = simp none
 
 module _ (names : List (List ℕ)) (before : ℕ) (w : List ℕ) (line : ℕ) (other : name_word w ≡ false) where
-  by_number : (c : Column) → (c ≡ EventName → ⊥) → bound_of w ≡ None → cell_from c before (a_number w line) ≡ cell_of c names before w
+  by_number : (c : Column) → (c ≡ EventName → ⊥) → bound_of w ≡ None → cell_from_token c before (a_number w line) ≡ cell_of c names before w
   by_number (Within least most) no-event unbound = refl
   by_number (NotBelow most) no-event unbound = refl
   by_number YesOrNo no-event unbound = no_flag names before w other
@@ -61,7 +61,7 @@ module _ (names : List (List ℕ)) (before : ℕ) (w : List ℕ) (line : ℕ) (o
   by_number Limit no-event unbound = limit-by-parts names before w other None unbound
   by_number NumberOrNone no-event unbound = claim-by-number names before w other (number w) refl
 
-  by-other : (c : Column) → (c ≡ EventName → ⊥) → number w ≡ None → bound_of w ≡ None → cell_from c before (an_other w line) ≡ cell_of c names before w
+  by-other : (c : Column) → (c ≡ EventName → ⊥) → number w ≡ None → bound_of w ≡ None → cell_from_token c before (an_other w line) ≡ cell_of c names before w
   by-other (Within least most) no-event none unbound = misfit (ranged least most) w none
   by-other (NotBelow most) no-event none unbound = misfit (ranged before most) w none
   by-other YesOrNo no-event none unbound = no_flag names before w other
@@ -83,7 +83,7 @@ module _ (names : List (List ℕ)) (before : ℕ) (w : List ℕ) (line : ℕ) (o
       ap (λ o. numbered o (λ a. cond (eqb (length second) 0) (limit_from a) (numbered (number second) (limit_between a)))) (cond-true _ _ _ parts.low)
       ∙ second-number second (read_on 0 first) _ refl parts.high
 
-  by-bound : (c : Column) (first second : List ℕ) → (c ≡ EventName → ⊥) → number w ≡ None → bound_of w ≡ Some (first, second) → cell_from c before (a_bound first second line) ≡ cell_of c names before w
+  by-bound : (c : Column) (first second : List ℕ) → (c ≡ EventName → ⊥) → number w ≡ None → bound_of w ≡ Some (first, second) → cell_from_token c before (a_bound first second line) ≡ cell_of c names before w
   by-bound (Within least most) first second no-event none is = misfit (ranged least most) w none
   by-bound (NotBelow most) first second no-event none is = misfit (ranged before most) w none
   by-bound YesOrNo first second no-event none is = no_flag names before w other
@@ -91,18 +91,18 @@ module _ (names : List (List ℕ)) (before : ℕ) (w : List ℕ) (line : ℕ) (o
   by-bound Limit first second no-event none is = parts-give first second is ∙ limit-by-parts names before w other (Some (first, second)) is
   by-bound NumberOrNone first second no-event none is = claim-by-number names before w other None none
 
-  by_parts : (c : Column) (o : Option (List ℕ × List ℕ)) → (c ≡ EventName → ⊥) → number w ≡ None → bound_of w ≡ o → cell_from c before (bound_or o w line) ≡ cell_of c names before w
+  by_parts : (c : Column) (o : Option (List ℕ × List ℕ)) → (c ≡ EventName → ⊥) → number w ≡ None → bound_of w ≡ o → cell_from_token c before (bound_or o w line) ≡ cell_of c names before w
   by_parts c None no-event none is = by-other c no-event none is
   by_parts c (Some parts) no-event none is = by-bound c parts.0 parts.1 no-event none is
 
 pub cell-by-token : (c : Column) (names : List (List ℕ)) (before : ℕ) (w : List ℕ) (line : ℕ) (p : Piece) → (c ≡ EventName → ⊥) → p ≡ token_of w line
-    → cell_from c before p ≡ cell_of c names before w
-cell-by-token c names before w line p no-event is = ap (cell_from c before) is ∙ ⊎_elim
-    (λ name. ap (cell_from c before) (cond-true _ _ _ name) ∙ by_name c names before w line no-event
+    → cell_from_token c before p ≡ cell_of c names before w
+cell-by-token c names before w line p no-event is = ap (cell_from_token c before) is ∙ ⊎_elim
+    (λ name. ap (cell_from_token c before) (cond-true _ _ _ name) ∙ by_name c names before w line no-event
     (no-number-from w (false_from_ne_true _ (λ n. name-is-no-number w name n)))
     (none_from _ (λ parts e. name-is-no-bound w parts.0 parts.1 name e)))
-    (λ other. ap (cell_from c before) (cond-false _ _ _ other) ∙ ⊎_elim
-    (λ n. ap (cell_from c before) (cond-true _ _ _ n) ∙ by_number names before w line other c no-event (none_from _ (λ parts e. number-is-no-bound w parts.0 parts.1 n e)))
-    (λ no'. ap (cell_from c before) (cond-false _ _ _ no') ∙ by_parts names before w line other c (bound_of w) no-event (no-number-from w no') refl)
+    (λ other. ap (cell_from_token c before) (cond-false _ _ _ other) ∙ ⊎_elim
+    (λ n. ap (cell_from_token c before) (cond-true _ _ _ n) ∙ by_number names before w line other c no-event (none_from _ (λ parts e. number-is-no-bound w parts.0 parts.1 n e)))
+    (λ no'. ap (cell_from_token c before) (cond-false _ _ _ no') ∙ by_parts names before w line other c (bound_of w) no-event (no-number-from w no') refl)
     (cases_Bool (numeral w)))
     (cases_Bool (name_word w))

@@ -1,7 +1,7 @@
 use meaning::values::Bound;
 
 // What one word of a row says.
-#[derive(Clone, Copy, Drop)]
+#[derive(Clone, Copy, Drop, PartialEq, Eq, Debug)]
 pub enum Cell {
     Number(u64),
     // `none` where a number may stand.
@@ -14,7 +14,7 @@ pub enum Cell {
 }
 
 // What a column takes.
-#[derive(Clone, Copy, Drop)]
+#[derive(Clone, Copy, Drop, PartialEq, Eq, Debug)]
 pub enum Column {
     // A number from the first to the second.
     Within(u64, u64),
@@ -30,7 +30,7 @@ pub enum Column {
 }
 
 // The kinds of rows that there are. An edge tells the largest place number, and an edge and a claim how many events there are, at most eight.
-#[derive(Clone, Copy, Drop)]
+#[derive(Clone, Copy, Drop, PartialEq, Eq, Debug)]
 pub enum RowKind {
     Tick,
     // A place, which has to have this number.
@@ -41,7 +41,7 @@ pub enum RowKind {
 }
 
 // What is wrong with a row: its words are too many or too few, or one is nothing that its column takes; or a number is out of range.
-#[derive(Clone, Copy, Drop)]
+#[derive(Clone, Copy, Drop, PartialEq, Eq, Debug)]
 pub enum WordFault {
     Misfit,
     OutOfRange,
@@ -49,7 +49,7 @@ pub enum WordFault {
 
 // The cells of a row. No kind has more than eleven columns, and past the last the cells are absent.
 // Reading entries allocates nothing, so the cells stand in the row itself.
-#[derive(Clone, Copy, Drop)]
+#[derive(Clone, Copy, Drop, PartialEq, Eq, Debug)]
 pub struct Row {
     pub cells: [Cell; 11],
 }

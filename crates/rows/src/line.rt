@@ -11,6 +11,7 @@ use texts::lines::{Run, end_from};
 use texts::words::word_count;
 
 // The place of the first space at or after `from`, or the line's length if there is none.
+// One line over `end_from`: it gives callers a word's end by its own name, and its promise names no kind of run.
 pub fn word_stop(line: &[u8], from: usize) -> usize
     ensures value { result ≡ word_stop line.now from }
     ensures within { result ≤ length line.now }

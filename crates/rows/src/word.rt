@@ -1,4 +1,4 @@
-ghost use Rattle.rows.specs.Pieces.{number_within, yes_or_no, event_named, limit_named, limit_from, limit_between, limit_of_parts, any_number, no_number, cell_from};
+ghost use Rattle.rows.specs.Pieces.{number_within, yes_or_no, event_named, limit_named, limit_from, limit_between, limit_of_parts, any_number, no_number, cell_from_token};
 ghost use Rattle.rows.specs.Rows.{cell_of};
 ghost use Rattle.rows.specs.declared.cell.WordFault.TheVariants.{Misfit};
 ghost use Rattle.texts.specs.Numbers.{number};
@@ -38,6 +38,7 @@ fn any_number(digits: &[u8]) -> Result<Cell, WordFault>
 }
 
 // Whether the word is the sought one.
+// One line over the `==` of slices: a public name, whose promise says it in the word of the specs, `bytes_eq`.
 pub fn is_word(word: &[u8], sought: &[u8]) -> bool
     ensures { result ≡ bytes_eq word.now sought.now }
 {
@@ -115,8 +116,8 @@ fn event_named(events: &Events<'_>, word: &[u8]) -> Result<Cell, WordFault>
 }
 
 // What a token gives in a column. An event is told by its word, in `read_cell`.
-fn cell_from(column: Column, before: u64, token: Token) -> Result<Cell, WordFault>
-    ensures { result ≡ cell_from column before (piece token.entry) }
+fn cell_from_token(column: Column, before: u64, token: Token) -> Result<Cell, WordFault>
+    ensures { result ≡ cell_from_token column before (piece token.entry) }
 {
     match (column, token) {
         (Column::Within(least, most), Token::Number { bytes, .. }) => number_within(
@@ -145,6 +146,6 @@ pub fn read_cell(
     match column {
         // The events tell by themselves which words are names.
         Column::EventName => event_named(events, word),
-        _ => cell_from(column, before, token_of(word, line)),
+        _ => cell_from_token(column, before, token_of(word, line)),
     }
 }

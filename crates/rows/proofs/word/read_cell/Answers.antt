@@ -4,5 +4,5 @@ use Rattle.rows.proofs.word.read_cell.Goals as goal
 
 pub returns-in_default : goal.returns-in_default
 returns-in_default c =
-    c.cell_from.ensures
+    c.cell_from_token.ensures
     ∙ cell-by-token c.args.column c.args.events.now c.args.before c.args.word.now c.args.line _ c.in_default.not-EventName c.token_of.ensures

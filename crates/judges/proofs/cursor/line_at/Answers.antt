@@ -3,11 +3,8 @@ use Rattle.std.proofs.lemmas.List.{length-take, length-drop}
 use Rattle.texts.specs.Lines.{lines, ended}
 use Rattle.formats.specs.Walk.{line_here}
 use Rattle.texts.proofs.Sought.{lines_from}
-use Rattle.judges.proofs.InTurn.{none_left, last-here, ended_here}
-use Rattle.judges.proofs.cursor.line_from.Goals as goal
-
-pub returns-then-at-text : goal.returns-then-at-text
-returns-then-at-text c = none_left c.args.text.now c.args.at c.if-at-text.true
+use Rattle.judges.proofs.InTurn.{last-here, ended_here}
+use Rattle.judges.proofs.cursor.line_at.Goals as goal
 
 pub returns : goal.returns
 returns c =
@@ -15,7 +12,7 @@ returns c =
     let at = c.args.at in
     let end = c.line_end-end.result in
     let is = c.line_end-end.ensures.value in
-    let more = c.if-at-text.false in
+    let more = c.requires in
     let bytes = take (end - at) (drop at t) in
     let size : length bytes ≡ end - at = omega (arith, length-take (end - at) (drop at t), length-drop at t, c.line_end-end.ensures.within) in
     let next : at + (length bytes + 1) ≡ end + 1 = omega (arith, size, more, c.line_end-end.ensures.within, c.line_end-end.ensures.after) in
