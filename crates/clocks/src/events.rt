@@ -31,16 +31,17 @@ impl<'a> Events<'a> {
     }
 
     // The names, in the order of the events' numbers.
-    pub fn names(&self) -> &[Name]
+    pub fn names(&self) -> &'a [Name]
         ensures { map text result.now ≡ self.now }
     {
-        &self.names[..]
+        self.names
     }
 
     // How many events there are.
     pub fn count(&self) -> u8
         ensures { result ≡ length self.now }
     {
+        // At most eight, so the cast loses nothing.
         self.names.len() as u8
     }
 
@@ -48,9 +49,11 @@ impl<'a> Events<'a> {
     pub fn number_of(&self, word: &[u8]) -> Option<u8>
         ensures { result ≡ first_of (λ name. bytes_eq name word.now) self.now }
     {
+        // Opened here, so that both ways out know the names.
         let names = self.names;
         let name = Name::new(word)?;
         let event = position(names, &name)?;
+        // Below eight, so the cast loses nothing.
         Some(event as u8)
     }
 }

@@ -67,6 +67,7 @@ impl Reading {
     }
 }
 
+// This, `each_advanced` and `each_holds` stand alone: what `==` and a chain answer is found by the function's contract, and not inside a larger body.
 fn is_equal(one: &Reading, other: &Reading) -> bool
     ensures { result ≡ pointwise (option_eq nat_eq) one.now.cells other.now.cells }
 {
@@ -85,6 +86,7 @@ fn advanced_cell(cell: Option<u16>, wait: u32, cap: u8) -> Option<u16>
 {
     cell.map(|ticks| {
         let ticks = u64::from(ticks) + u64::from(wait);
+        // At most 256, so the cast loses nothing.
         ticks.min(u64::from(cap) + 1) as u16
     })
 }

@@ -11,6 +11,7 @@ pub fn position<T: PartialEq>(list: &[T], sought: &T) -> Option<usize>
     list.iter().position(|element| is_same(element, sought))
 }
 
+// A closure may compare in place. Alone, a wrong comparison is refused here, and not first in the proof of `position`.
 fn is_same<T: PartialEq>(one: &T, other: &T) -> bool
     ensures { result ≡ T.PartialEq.eq one.now other.now }
 {

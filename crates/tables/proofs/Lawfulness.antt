@@ -1,21 +1,19 @@
 -- What the tests of names, edges and caps tell of whole lists. Assumes nothing.
-use Rattle.std.proofs.Common.{◌≡◌, ℕ, suc, ◌-◌, ◌<◌, ◌≤◌, max, Bool, true, false, cond, not, ◌&&◌, ltb, leb, List, [], ◌∷◌, map, length, get_or, take, drop, is_some, Option, sym, refl, ap, ◌∙◌, add-one, arith}
+use Rattle.std.proofs.Common.{◌≡◌, ℕ, suc, ◌-◌, ◌≤◌, max, Bool, true, false, cond, not, ◌&&◌, ltb, leb, List, [], ◌∷◌, map, length, get_or, take, drop, is_some, Option, sym, refl, ap, ◌∙◌, add-one, arith}
 use Rattle.std.proofs.lemmas.List.{drop_more, take_rest, length-map}
-use Rattle.std.proofs.lemmas.Bool.{and_from, and_left, and_right, le-leb, lt-leb}
+use Rattle.std.proofs.lemmas.Bool.{and_from, le-leb}
 use Rattle.std.specs.Str.{bytes_eq}
 use Rattle.std.specs.List.{list_all, fold, enumerate_from}
 use Rattle.meaning.specs.Stepping.{top, top_of_bounds, cap_of}
 use Rattle.meaning.specs.declared.values.Bound.{Bound}
-use Rattle.meaning.specs.declared.values.Place.{Place}
 use Rattle.meaning.specs.declared.values.Edge.{Edge}
 use Rattle.clocks.specs.declared.name.Name.{Name}
 use Rattle.clocks.specs.Search.{first_of}
 use Rattle.clocks.specs.Texts.{text}
-use Rattle.tables.specs.Forms.{form}
 use Rattle.texts.specs.Numbers.{every}
 use Rattle.clocks.specs.Letters.{lawful_name}
 use Rattle.clocks.proofs.Firsts.{first_of-map}
-use Rattle.tables.specs.Lawful.{different, is_any, lawful_bound, lawful_bounds, lawful_names, lawful_edge, lawful_edges, lawful}
+use Rattle.tables.specs.Lawful.{different, is_any, lawful_bound, lawful_bounds, lawful_names, lawful_edge}
 
 pub names-are-lawful : (names : List Name) → every lawful_name (map text names) ≡ true
 names-are-lawful [] = refl
@@ -65,28 +63,10 @@ module _ (names : List Name) (name : Name) (r : Option ℕ) (b : Bool) (some : 1
   pub not-different : b ≡ false → b ≡ different (map text names)
   not-different no' = no' ∙ sym (by-first (drop 1 names) (take_rest names 1) first-apart ∙ ap (λ c. not (not c) && different (map text (drop 1 names))) no')
 
--- the tests that are left to each part of a table
-pub too-few-names : (names : List Name) → length names ≡ 0 → false ≡ lawful_names (map text names)
-too-few-names [] e = refl
-too-few-names (n ∷ names) e = absurd (omega arith)
-
-pub too-many-names : (names : List Name) → 8 < length names → false ≡ lawful_names (map text names)
-too-many-names names many =
-    sym (and_left _ (every lawful_name (map text names) && different (map text names)) (and_right _ _ (lt-leb (length (map text names)) 8 (omega (arith, length-map names text)))))
-
+-- the tests that are left to a list of names
 pub lawful-names-is : (names : List Name) → (length names ≡ 0 → ⊥) → length names ≤ 8 → (d : Bool) → d ≡ different (map text names) → d ≡ lawful_names (map text names)
 lawful-names-is names some few d is =
     let long = length-map names text in
     let low : leb 1 (length (map text names)) ≡ true = le-leb 1 _ (omega (arith, long)) in
     let high : leb (length (map text names)) 8 ≡ true = le-leb _ 8 (omega (arith, long)) in
     is ∙ sym (λ i. (low i && high i) && (names-are-lawful names i && different (map text names)))
-
-pub lawful-is : (tick : ℕ) (names : List Name) (places : List Place) (edges : List Edge) (e : Bool) → (tick ≡ 0 → ⊥) → tick ≤ 60000
-    → true ≡ lawful_names (map text names) → (length places ≡ 0 → ⊥) → length places ≤ 32 → e ≡ lawful_edges (length names) (length places) edges
-    → e ≡ lawful (form tick names places edges)
-lawful-is tick names places edges e some small named place few is =
-    let a : leb 1 tick ≡ true = le-leb 1 tick (omega arith) in
-    let b : leb tick 60000 ≡ true = le-leb tick 60000 small in
-    let c : leb 1 (length places) ≡ true = le-leb 1 _ (omega arith) in
-    let d : leb (length places) 32 ≡ true = le-leb _ 32 few in
-    is ∙ sym (λ i. (a i && b i) && (sym named i && ((c i && d i) && lawful_edges (length-map names text i) (length places) edges)))

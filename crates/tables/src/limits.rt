@@ -30,6 +30,7 @@ fn lawful_bound_at(bound: Bound, event: usize, events: usize) -> bool
     }
 }
 
+// This and `each_edge_lawful` stand alone: a chain's result is found by the function's contract, and not inside a larger body.
 fn each_bound_lawful(bounds: &[Bound], events: usize) -> bool
     ensures { result ≡ list_all (λ p. if nat_lt p.0 events then lawful_bound p.1 else is_any p.1) (enumerate_from 0 bounds.now) }
 {
@@ -48,10 +49,10 @@ fn lawful_bounds(bounds: &[Bound; 8], events: usize) -> bool
 fn lawful_edge(edge: &Edge, events: usize, places: usize) -> bool
     ensures { result ≡ lawful_edge events places edge.now }
 {
-    if usize::from(edge.source) >= places || usize::from(edge.target) >= places {
-        return false;
-    }
-    usize::from(edge.event) < events && lawful_bounds(&edge.bounds, events)
+    usize::from(edge.source) < places
+        && usize::from(edge.target) < places
+        && usize::from(edge.event) < events
+        && lawful_bounds(&edge.bounds, events)
 }
 
 fn each_edge_lawful(edges: &[Edge], events: usize, places: usize) -> bool
@@ -80,23 +81,19 @@ fn all_different(names: &[Name]) -> bool
 fn lawful_names(names: &[Name]) -> bool
     ensures { result ≡ lawful_names (map text names.now) }
 {
-    if names.is_empty() || names.len() > 8 {
-        return false;
-    }
-    all_different(names)
+    !names.is_empty() && names.len() <= 8 && all_different(names)
 }
 
 // Whether these may be the parts of a table. They are what `Table::new` takes, and a struct of them would be the table again.
 pub(crate) fn are_lawful(tick: u16, names: &[Name], places: &[Place], edges: &[Edge]) -> bool
     ensures { result ≡ lawful (form tick names.now places.now edges.now) }
 {
-    if tick == 0 || tick > 60_000 || !lawful_names(names) {
-        return false;
-    }
-    if places.is_empty() || places.len() > 32 {
-        return false;
-    }
-    lawful_edges(edges, names.len(), places.len())
+    tick != 0
+        && tick <= 60_000
+        && lawful_names(names)
+        && !places.is_empty()
+        && places.len() <= 32
+        && lawful_edges(edges, names.len(), places.len())
 }
 
 fn top_of_bound(bound: Bound) -> u8

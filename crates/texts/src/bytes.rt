@@ -33,6 +33,7 @@ fn bad_line(text: &[u8]) -> Option<u32>
     ensures { result ≡ bad_byte text.now }
 {
     let at = first_bad(text)?;
+    // The text has fewer than 2 ^ 32 bytes, so the cast loses nothing.
     Some(count_of(&text[..at], b'\n') as u32 + 1)
 }
 

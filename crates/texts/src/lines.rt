@@ -76,14 +76,14 @@ fn unended(text: &[u8]) -> &[u8]
     }
 }
 
-// The line that comes after `before` others.
+// The line that comes after `before` others. The empty text has none.
 fn line_after(text: &[u8], before: u32) -> Option<&[u8]>
     ensures { option_map (λ x. x.now) result ≡ slice_get (lines text.now) before }
 {
-    if text.is_empty() {
-        return None;
-    }
-    unended(text).split(|b| *b == b'\n').nth(before as usize)
+    (!text.is_empty())
+        .then_some(unended(text))?
+        .split(|b| *b == b'\n')
+        .nth(before as usize)
 }
 
 // Line `number` of the text, from 1, without the byte that ends it.

@@ -20,7 +20,7 @@ fn padded(bytes: &[u8]) -> [u8; 12]
 
 impl Name {
     // The name with these letters; none exactly when they are not 1 to 12 letters from a to z.
-    // Neither `then` nor `?` is plainer: the closure of `then` must ask that the name be lawful, and `?` needs one more function that promises what this one does.
+    // `then` was tried: its closure leaves the goal of the type's invariant open, as it knows nothing of the test. `?` needs one more function that promises what this one does.
     pub fn new(bytes: &[u8]) -> Option<Name>
         ensures { option_map text result ≡ (if lawful_name bytes.now then Some bytes.now else None) }
     {

@@ -27,6 +27,7 @@ impl Table {
     }
 
     // The table with these parts; none exactly when a limit is broken.
+    // `then` was tried: its closure, which knows nothing of the test, asks for clauses of its own.
     pub fn new(tick: u16, names: Vec<Name>, places: Vec<Place>, edges: Vec<Edge>) -> Option<Table>
         ensures { option_map contents result ≡ (if lawful (form tick names.items places.items edges.items) then Some (form tick names.items places.items edges.items) else None) }
     {
@@ -74,6 +75,7 @@ impl Table {
     pub fn events(&self) -> u8
         ensures { result ≡ length (contents self.now).names }
     {
+        // At most eight, so the cast loses nothing.
         self.names.len() as u8
     }
 
