@@ -91,6 +91,7 @@ pub fn judge_row(
 }
 
 // A line among rows of ticks: the tick, or none where an empty line ends the sheet.
+// A tick is at most 60,000, so the cast loses nothing; `try_from` would need an answer for a case that does not come.
 fn judge_ticks(line: TextLine, rows: SheetRows) -> Result<Option<u16>, LineFault>
     ensures { Says result (tick_in (limits_in rows.limits) rows.count (line_in line.entry)) }
 {

@@ -75,7 +75,9 @@ fn fill_claims(text: &[u8], events: &Events<'_>, claims: &mut [Claim])
                 claims[count] = claim;
                 count += 1;
             }
+            // The head.
             Ok(None) => {}
+            // No line is refused, as all are taken.
             Err(_) => return,
         }
         stage = EntryStage::Rows;

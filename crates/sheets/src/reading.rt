@@ -62,6 +62,7 @@ pub(crate) fn read_text<R: LineReader>(
 {
     check_bytes(text, most)?;
     if text.is_empty() {
+        // Line 0, which is none: the text has no line.
         return Err(SheetFault::Text(TextFault::BadSpacing { line: 0 }));
     }
     read_lines(reader, text)

@@ -8,7 +8,7 @@ ghost use Rattle.std.specs.Prelude.{◌≡◌, ◌≤◌, length};
 
 use crate::numbers::is_number;
 
-// A word of a text, which it borrows. Each case has the line, since a fault of any word is told with its line.
+// A word of a text, which it borrows. Each case has the line, which a token tells along with its bytes.
 #[derive(Clone, Copy, Drop)]
 pub enum Token<'a> {
     // Letters only, at least one.

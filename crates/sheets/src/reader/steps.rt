@@ -42,7 +42,8 @@ fn bounds_in(row: Row) -> [Bound; 8]
 }
 
 impl TableReader {
-    // A row of a place, or the end of the places.
+    // A row of a place, or the end of the places. This, a row of an edge and one of a distance have the call of `judge_row` alike:
+    // each makes another value, and only places end by an empty line.
     fn place_row(&mut self, line: TextLine) -> Result<(), LineFault>
         ensures { Leads result (parts_of self.new) (step_at PlaceRows (parts_of self.old) (line_in line.entry)) }
     {
@@ -87,6 +88,7 @@ impl TableReader {
         let kind = RowKind::Edge(most, events.count());
         self.stage = Stage::EdgeRows;
         if let Some(row) = judge_row(line, rows, kind, &events)? {
+            // The numbers are within their columns, so that the casts lose nothing.
             let source = number_in(row.cells[0]) as u8;
             let target = number_in(row.cells[1]) as u8;
             let event = event_in(row.cells[2]);

@@ -35,6 +35,7 @@ impl<'a> DistanceReader<'a> {
         if let Some(row) = judge_row(line, rows, RowKind::Distance, &self.events)? {
             let on = event_in(row.cells[0]);
             let since = event_in(row.cells[1]);
+            // Both are at most 250, so that the casts lose nothing.
             let least = number_in(row.cells[2]) as u8;
             let most = number_in(row.cells[3]) as u8;
             self.lines.push(Distance {
