@@ -20,13 +20,20 @@ impl<'a> Model for Events<'a> {
     ghost invariant = { λ e. length e.names.now ≤ 8 };
 }
 
+// A table has no more names, so that the number of an event is small.
+pub fn first_eight(names: &[Name]) -> &[Name]
+    ensures { result.now ≡ take 8 names.now }
+{
+    &names[..names.len().min(8)]
+}
+
 impl<'a> Events<'a> {
-    // The first eight of the names. A table has no more of them, so that the number of an event is small.
+    // The events with the first eight of the names.
     pub fn first_eight(names: &'a [Name]) -> Events<'a>
         ensures { result ≡ take 8 (map text names.now) }
     {
         Events {
-            names: &names[..names.len().min(8)],
+            names: first_eight(names),
         }
     }
 
