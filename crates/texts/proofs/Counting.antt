@@ -1,18 +1,14 @@
 -- The words of a line, counted and tested. Assumes nothing.
-use Rattle.std.proofs.Common.{◌≡◌, ℕ, ◌+◌, false, not, ◌||◌, ◌==◌, eqb, List, [], ◌∷◌, length, count_by, refl, ap, ◌∙◌, arith}
-use Rattle.std.proofs.lemmas.Bool.Decides.{nat_tests}
+use Rattle.std.proofs.Common.{◌≡◌, ℕ, ◌+◌, Bool, true, false, ◌==◌, List, length, drop, count_by}
 use Rattle.std.proofs.lemmas.List.Splits.{length-slice_split}
-use Rattle.std.specs.List.{list_any}
 use Rattle.texts.specs.Numbers.{every}
-use Rattle.texts.specs.Lines.{words, filled}
+use Rattle.texts.specs.Lines.{words, filled, spaced}
 
 -- There is a word more than spaces.
 pub length_words : (l : List ℕ) → length (words l) ≡ count_by (λ b. b == 32) l + 1
 length_words l = length-slice_split (λ b. b == 32) l
 
-pub some_empty : (ws : List (List ℕ)) → list_any (λ w. length w == 0) ws ≡ not (every filled ws)
-some_empty [] = refl
-some_empty ([] ∷ ws) = refl
-some_empty ((b ∷ w) ∷ ws) =
-    let no' : eqb (length (b ∷ w)) 0 ≡ false = grind (arith, nat_tests) in
-    ap (λ t. t || list_any (λ v. length v == 0) ws) no' ∙ some_empty ws
+-- The rest of a line is well spaced, after a word that is empty so far, or is not.
+abbrev pub spaced_on : Bool → List ℕ → Bool
+spaced_on true l = spaced l
+spaced_on false l = every filled (drop 1 (words l))

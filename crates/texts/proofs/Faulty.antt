@@ -1,5 +1,5 @@
 -- The first byte that is not allowed, by its place and the line ends before it. Assumes nothing.
-use Rattle.std.proofs.Common.{◌≡◌, ℕ, suc, ◌+◌, Bool, true, false, cond, not, ◌==◌, eqb, ltb, List, [], ◌∷◌, length, take, Some, None, Option, count_by, position, refl, sym, ap, ◌∙◌, arith, one-add}
+use Rattle.std.proofs.Common.{◌≡◌, ℕ, suc, ◌+◌, Bool, true, false, cond, not, ◌&&◌, ◌==◌, eqb, ltb, List, [], ◌∷◌, length, take, Some, None, Option, count_by, position, refl, sym, ap, ◌∙◌, arith, one-add}
 use Rattle.std.proofs.lemmas.List.Sums.{sum_by-cons}
 use Rattle.std.proofs.lemmas.Bool.{and_parts, lt-ltb, cond-true}
 use Rattle.std.proofs.lemmas.Bool.Decides.{nat_tests}
@@ -7,6 +7,7 @@ use Rattle.std.specs.Option.{option_map}
 use Rattle.std.specs.List.{position_or_len}
 use Rattle.texts.specs.Numbers.{every}
 use Rattle.texts.specs.Lines.{allowed, bad_byte}
+use Rattle.texts.proofs.Lists.{never-some}
 
 pub bad-none : (t : List ℕ) → every allowed t ≡ true → bad_byte t ≡ None
 bad-none [] all = refl
@@ -17,6 +18,20 @@ bad-none (b ∷ t) all =
     same : (e : Bool) → cond {A = Option ℕ} e None None ≡ None
     same true = refl
     same false = refl
+
+never-mapped : (o : Option ℕ) → option_map suc o ≡ None → o ≡ None
+never-mapped None e = refl
+never-mapped (Some n) e = never-some (suc n) (sym e)
+
+allowed-here : (t : List ℕ) (ok end : Bool) → (bad_byte t ≡ None → every allowed t ≡ true)
+    → cond ok (cond end (option_map suc (bad_byte t)) (bad_byte t)) (Some 1) ≡ None → (ok && every allowed t) ≡ true
+allowed-here t true true rest none = rest (never-mapped (bad_byte t) none)
+allowed-here t true false rest none = rest none
+allowed-here t false end rest none = never-some 1 (sym none)
+
+pub allowed-from-none : (t : List ℕ) → bad_byte t ≡ None → every allowed t ≡ true
+allowed-from-none [] none = refl
+allowed-from-none (b ∷ t) none = allowed-here t (allowed b) (eqb b 10) (λ e. allowed-from-none t e) none
 
 -- `position` by the first element
 position-first : {X : Type 0} (p : X → Bool) (x : X) (xs : List X) → position p (x ∷ xs) ≡ cond (p x) (Some 0) (option_map suc (position p xs))

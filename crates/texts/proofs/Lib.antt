@@ -6,3 +6,4 @@ pub mod Ends
 pub mod Faulty
 pub mod Counting
 pub mod Shapes
+pub mod Walks

@@ -7,7 +7,17 @@ use crate::bytes::count_of;
 fn has_empty_word(line: &[u8]) -> bool
     ensures { result ≡ not (spaced line.now) }
 {
-    line.split(|b| *b == b' ').any(|word| word.is_empty())
+    // One pass over the bytes, since every line is asked: to split it into its words first takes up to twice as long.
+    // The word that the next byte comes to has no byte yet.
+    let mut empty = true;
+    for b in line {
+        let space = *b == b' ';
+        if space && empty {
+            return true;
+        }
+        empty = space;
+    }
+    empty
 }
 
 // Whether the line has words, parted by one space each, with none at either end.
