@@ -1,5 +1,7 @@
 -- What the code of a reading does to its cells. Assumes nothing.
-use Rattle.std.proofs.Common.{◌≡◌, ℕ, suc, ◌+◌, ◌<◌, ◌≤◌, min, Bool, ◌&&◌, eqb, List, [], ◌∷◌, map, length, get_or, Some, None, Decides, Option, sym, refl, ap, true≢false, arith}
+use Rattle.std.proofs.Common.{◌≡◌, ℕ, ◌+◌, ◌<◌, ◌≤◌, min, Bool, ◌&&◌, eqb, List, [], ◌∷◌, ◌++◌, map, length, get_or, take, drop, set, Some, None, Decides, Option, sym, refl, ap, ◌∙◌, true≢false, append-nil, arith}
+use Rattle.std.proofs.lemmas.List.Edits.{map_over_more}
+use Rattle.std.proofs.lemmas.List.{take_all, drop_all, get_or_default, length-append, length-map, length-take, length-drop}
 use mathlib.Core.List.{map-map}
 use Rattle.std.proofs.lemmas.Slice.Eq.{slice_eq-Decides}
 use Rattle.std.proofs.lemmas.Bool.{eqb-true, eq-eqb}
@@ -11,19 +13,30 @@ use Rattle.meaning.specs.declared.values.Bound.{Bound}
 use Rattle.clocks.specs.Cells.{advanced_cell}
 use Rattle.clocks.specs.declared.reading.Reading.{Reading}
 
--- A list with f of each element of another, place by place, is that list under f.
-pub mapped-at_places : {X Y : Type 0} (f : X → Y) (xs : List X) (ys : List Y) → length ys ≡ length xs → ((i : ℕ) (d : X) (e : Y) → i < length xs → get_or ys i e ≡ f (get_or xs i d)) → ys ≡ map f xs
-mapped-at_places f [] [] long at = refl
-mapped-at_places f [] (y ∷ ys) long at = absurd (omega arith)
-mapped-at_places f (x ∷ xs) [] long at = absurd (omega arith)
-mapped-at_places f (x ∷ xs) (y ∷ ys) long at =
-    let here = at 0 x y (omega arith) in
-    let rest = mapped-at_places f xs ys (omega arith) (λ i d e h. at (suc i) d e (omega arith)) in
-    λ i. here i ∷ rest i
+-- ---- a wait passes
+
+-- ys is xs with the first i cells advanced
+abbrev pub Advanced : ℕ → ℕ → Cells → Cells → ℕ → Type 0
+Advanced c d xs ys i = ys ≡ map (advanced_cell c d) (take i xs) ++ drop i xs
+
+pub advanced-more : (c d : ℕ) (xs ys : Cells) (i : ℕ) (e v : Option ℕ) → i < length xs → Advanced c d xs ys i → v ≡ advanced_cell c d (get_or ys i e) → Advanced c d xs (set ys i v) (i + 1)
+advanced-more c d xs ys i e v h inv new =
+    let long = simp (length-append, length-map, length-take, length-drop) at (ap length inv) in
+    let read = get_or_default ys i e (get_or ys i e) (omega arith) in
+    ap (set ys i) new ∙ map_over_more (advanced_cell c d) xs ys i (get_or ys i e) h inv read
 
 -- A wait advances each cell by itself.
 pub advanced_by_cells : (c d : ℕ) (cells : Cells) → map (advanced_cell c d) cells ≡ advanced c d cells
 advanced_by_cells c d cells = sym (map-map (option_map (λ n. min n (c + 1))) (option_map (λ n. n + d)) cells)
+
+pub advanced-all : (c d : ℕ) (xs ys : Cells) (i : ℕ) → length xs ≤ i → Advanced c d xs ys i → ys ≡ advanced c d xs
+advanced-all c d xs ys i h inv =
+    let front = take_all i xs h in
+    let back = drop_all i xs h in
+    let whole = append-nil (map (advanced_cell c d) xs) in
+    inv ∙ (λ j. map (advanced_cell c d) (front j) ++ back j) ∙ whole ∙ advanced_by_cells c d xs
+
+-- ---- the bounds hold
 
 -- Where each bound has its cell, the bounds hold if each holds of its own.
 pub holds_all_by_pairs : (bs : List Bound) (cells : Cells) → length bs ≤ length cells → list_all (λ p. holds p.0 p.1) (zip bs cells) ≡ holds_all bs cells

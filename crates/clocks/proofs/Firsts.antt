@@ -59,8 +59,14 @@ module _ {A : Type 0} (f : A → Bool) where
   pub first-from-some : (xs : List A) (i : ℕ) → first_of f xs ≡ Some i → FirstAt f xs i
   first-from-some xs i e = subst (First f xs) e (first_of-is-first xs)
 
+  pub some-from-first : (xs : List A) (i : ℕ) → FirstAt f xs i → first_of f xs ≡ Some i
+  some-from-first xs i h = sym (first-is-first_of xs (Some i) h)
+
   pub fails-from-none : (xs : List A) → first_of f xs ≡ None → (k : ℕ) (d : A) → k < length xs → f (get_or xs k d) ≡ false
   fails-from-none xs e = subst (First f xs) e (first_of-is-first xs)
+
+  pub none-from-fails : (xs : List A) → ((k : ℕ) (d : A) → k < length xs → f (get_or xs k d) ≡ false) → first_of f xs ≡ None
+  none-from-fails xs h = sym (first-is-first_of xs None h)
 
 pub first_of-map : {X Y : Type 0} (f : Y → Bool) (g : X → Y) (xs : List X) → first_of f (map g xs) ≡ first_of (λ x. f (g x)) xs
 first_of-map f g [] = refl

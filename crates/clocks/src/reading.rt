@@ -1,15 +1,18 @@
 ghost use Rattle.clocks.specs.Cells.{advanced_cell};
 ghost use Rattle.meaning.specs.Stepping.{never, advanced, restarted, holds, holds_all};
 ghost use Rattle.std.specs.Option.{option_eq};
+ghost use Rattle.std.specs.Ordering.{on};
 ghost use Rattle.std.specs.List.{list_all, zip};
-ghost use Rattle.std.specs.Prelude.{◌≡◌, None, Decides, nat_eq, slice_index_or, map};
+ghost use Rattle.std.specs.Prelude.{◌≡◌, None, Decides, nat_eq, slice_index_or};
 ghost use lib.Pointwise.{pointwise};
+ghost use Rattle.std.specs.Cmp.Rules.{comparing};
+ghost use Rattle.std.proofs.Common.{rules};
 
 use meaning::values::Bound;
 
 // For each of eight events the ticks since it last came, or None for never.
 // A number may be as large as a cap plus 1, and a cap is a u8, so a cell is a u16.
-#[derive(Clone, Copy, PartialEq, Eq, Drop)]
+#[derive(Clone, Copy, Eq, Drop)]
 pub struct Reading {
     pub cells: [Option<u16>; 8],
 }
@@ -23,13 +26,14 @@ impl Reading {
     }
 
     // The reading once the wait has passed. What lies above the cap becomes the cap plus 1, since no bound tells such numbers apart.
-    #[tactic(auto, using(crate::proofs::Cells::advanced_by_cells))]
     pub fn advanced(self, wait: u32, cap: u8) -> Reading
         ensures { result.cells ≡ advanced «cap» wait self.cells }
     {
-        Reading {
-            cells: each_advanced(self.cells, wait, cap),
+        let mut cells = self.cells;
+        for cell in cells.iter_mut() {
+            *cell = advanced_cell(*cell, wait, cap);
         }
+        Reading { cells }
     }
 
     // The reading once the event has come. An event at or past the count has no clock, so that it changes no cell.
@@ -51,12 +55,12 @@ impl Reading {
         self.cells.get(usize::from(event)).copied().flatten()
     }
 
-    // Whether the readings are the same. This is what `==` answers, which is derived and tells it by the cells.
+    // Whether the readings are the same, as `==` answers it.
     pub fn is_same(&self, other: &Reading) -> bool
         ensures value { result ≡ pointwise (option_eq nat_eq) self.now.cells other.now.cells }
         ensures same { Decides result (self.now ≡ other.now) }
     {
-        is_equal(self, other)
+        *self == *other
     }
 
     // Whether each bound holds of its event's cell.
@@ -67,17 +71,25 @@ impl Reading {
     }
 }
 
-// This, `each_advanced` and `each_holds` stand alone: what `==` and a chain answer is found by the function's contract, and not inside a larger body.
-fn is_equal(one: &Reading, other: &Reading) -> bool
-    ensures { result ≡ pointwise (option_eq nat_eq) one.now.cells other.now.cells }
-{
-    *one == *other
+// A derived `==` would promise what it computes of the cells, and not that it tells whether the readings are the same: callers of this one know both.
+impl PartialEq for Reading {
+    ghost eq = { on (λ r. r.cells) (pointwise (option_eq nat_eq)) };
+
+    ghost laws = { Prim.search (comparing, rules) };
+
+    fn eq(&self, other: &Reading) -> bool
+        ensures value { result ≡ pointwise (option_eq nat_eq) self.now.cells other.now.cells }
+        ensures same { Decides result (self.now ≡ other.now) }
+    {
+        is_equal(&self.cells, &other.cells)
+    }
 }
 
-fn each_advanced(cells: [Option<u16>; 8], wait: u32, cap: u8) -> [Option<u16>; 8]
-    ensures { result ≡ map (advanced_cell «cap» wait) cells }
+// This and `each_holds` stand alone: what `==` of arrays and a chain answer is found by the function's contract, and not inside a larger body.
+fn is_equal(one: &[Option<u16>; 8], other: &[Option<u16>; 8]) -> bool
+    ensures { result ≡ pointwise (option_eq nat_eq) one.now other.now }
 {
-    cells.map(|cell| advanced_cell(cell, wait, cap))
+    *one == *other
 }
 
 // The sum is taken in u64, where it cannot wrap, and fits a cell once it is capped.
