@@ -6,7 +6,7 @@ ghost use Rattle.formats.specs.Walk.{head_step};
 ghost use Rattle.clocks.specs.Texts.{text};
 ghost use Rattle.std.specs.Option.{MatchOption};
 ghost use Rattle.std.specs.Str.{bytes_eq};
-ghost use Rattle.std.specs.Prelude.{◌≡◌, false, map, [], None};
+ghost use Rattle.std.specs.Prelude.{◌≡◌, false, map, take, [], None};
 
 use crate::judging::check_spacing;
 use clocks::events::Events;
@@ -15,7 +15,7 @@ use formats::claim::{Claim, EntryStage};
 use formats::fault::LineFault;
 use formats::line::TextLine;
 use rows::cell::RowKind;
-use rows::line::read_row;
+use rows::line::read_row_for;
 
 // What follows the head for these names in a line that begins with it.
 fn after_head<'a>(line: &'a [u8], names: &[Name]) -> Option<&'a [u8]>
@@ -58,12 +58,12 @@ fn row_line(
         return Err(LineFault::Count);
     }
     let kind = RowKind::Claim(events.count());
-    let row = read_row(kind, events, line.bytes, line.number)?;
+    let row = read_row_for(kind, events, line.bytes, line.number)?;
     Ok(Claim::from(row))
 }
 
 // The claim of a line with `count` claims before it and room for `room`; none of the head.
-pub fn entry_line(
+pub fn entry_line_for(
     stage: EntryStage,
     count: usize,
     room: usize,
@@ -76,4 +76,17 @@ pub fn entry_line(
         EntryStage::Head => head_line(events, line),
         EntryStage::Rows => row_line(count, room, events, line).map(Some),
     }
+}
+
+// The same for any list of names. Names past the eighth name no event.
+pub fn entry_line(
+    stage: EntryStage,
+    count: usize,
+    room: usize,
+    names: &[Name],
+    line: TextLine,
+) -> Result<Option<Claim>, LineFault>
+    ensures { Says result (entry_gives (take 8 (map text names.now)) room stage count (line_in line.entry)) }
+{
+    entry_line_for(stage, count, room, &Events::first_eight(names), line)
 }

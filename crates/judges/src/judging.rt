@@ -3,16 +3,18 @@ ghost use Rattle.formats.specs.EntryLines.{Says};
 ghost use Rattle.formats.specs.TableText.{head_is, tick_in, tick_judged};
 ghost use Rattle.formats.specs.Walk.{empty, misspaced, lacks_sheet, head_step, row_step};
 ghost use Rattle.formats.specs.declared.fault.LineFault.TheVariants.{Spacing};
+ghost use Rattle.clocks.specs.Texts.{text};
 ghost use Rattle.rows.specs.Rows.{padded};
 ghost use Rattle.std.specs.Option.{option_map};
-ghost use Rattle.std.specs.Prelude.{◌≡◌, ◌&&◌, ltb, if◌then◌else◌, Some, None, Ok, Err, nat_lt};
+ghost use Rattle.std.specs.Prelude.{◌≡◌, ◌&&◌, ltb, if◌then◌else◌, map, take, Some, None, Ok, Err, nat_lt};
 
 use clocks::events::Events;
+use clocks::name::Name;
 use formats::fault::LineFault;
 use formats::line::{SheetLimits, SheetRows, TextLine};
 use rows::cell::{Row, RowKind};
 use rows::content::number_in;
-use rows::line::read_row;
+use rows::line::read_row_for;
 use rows::word::is_word;
 use texts::words::is_spaced;
 
@@ -68,7 +70,7 @@ fn judge_end(line: TextLine, rows: SheetRows) -> Result<Option<Row>, LineFault>
 }
 
 // A line among the rows of a sheet: a row, or none where an empty line ends the sheet.
-pub fn judge_row(
+pub fn judge_row_for(
     line: TextLine,
     rows: SheetRows,
     kind: RowKind,
@@ -87,7 +89,22 @@ pub fn judge_row(
     if rows.count >= rows.limits.most {
         return Err(LineFault::Count);
     }
-    Ok(Some(read_row(kind, events, line.bytes, line.number)?))
+    Ok(Some(read_row_for(kind, events, line.bytes, line.number)?))
+}
+
+// The same for any list of names. Names past the eighth name no event.
+pub fn judge_row(
+    line: TextLine,
+    limits: SheetLimits,
+    count: usize,
+    kind: RowKind,
+    names: &[Name],
+) -> Result<Option<Row>, LineFault>
+    ensures row { Says result (row_step (limits_in limits) count kind (take 8 (map text names.now)) (line_in line.entry) (λ cells. Some (record { cells = padded cells })) None) }
+    ensures cells { Agrees (option_map (λ x. x.cells)) result (row_step (limits_in limits) count kind (take 8 (map text names.now)) (line_in line.entry) (λ cells. Some (padded cells)) None) }
+{
+    let rows = SheetRows { limits, count };
+    judge_row_for(line, rows, kind, &Events::first_eight(names))
 }
 
 // A line among rows of ticks: the tick, or none where an empty line ends the sheet.
@@ -95,7 +112,7 @@ pub fn judge_row(
 fn judge_ticks(line: TextLine, rows: SheetRows) -> Result<Option<u16>, LineFault>
     ensures { Says result (tick_in (limits_in rows.limits) rows.count (line_in line.entry)) }
 {
-    let row = judge_row(line, rows, RowKind::Tick, &Events::first_eight(&[]))?;
+    let row = judge_row_for(line, rows, RowKind::Tick, &Events::first_eight(&[]))?;
     Ok(row.map(|row| number_in(row.cells[0]) as u16))
 }
 

@@ -6,3 +6,4 @@ pub mod Rows
 pub mod Shaped
 pub mod Columns
 pub mod Walks
+pub mod Places

@@ -1,5 +1,5 @@
 -- What the words of a row say, column by column, and how a row is written.
-use Rattle.std.specs.Prelude.{ℕ, ◌+◌, ◌-◌, min, Bool, true, false, cond, ◌&&◌, List, [], ◌∷◌, ◌++◌, map, length, replicate, Some, None, Ok, Err, codes, decimal, Option, Result, ◌==◌, nat_le, slice_index_or}
+use Rattle.std.specs.Prelude.{ℕ, ◌+◌, ◌-◌, min, Bool, true, false, cond, ◌&&◌, List, [], ◌∷◌, ◌++◌, map, length, drop, replicate, Some, None, Ok, Err, codes, decimal, Option, Result, ◌==◌, nat_le, slice_index_or}
 use Rattle.std.specs.Str.{bytes_eq}
 use Rattle.meaning.specs.declared.values.Bound.{Bound}
 use Rattle.meaning.specs.declared.values.Bound.TheVariants.{Any, Never, AtLeast, Between}
@@ -107,6 +107,10 @@ columns (Place k) = Within k k ∷ YesOrNo ∷ YesOrNo ∷ []
 columns (Edge most n) = Within 0 most ∷ Within 0 most ∷ EventName ∷ replicate (min n 8) Limit
 columns Distance = EventName ∷ EventName ∷ Within 0 250 ∷ NotBelow 250 ∷ []
 columns (Claim n) = Within 0 9999999999 ∷ Within 0 9999999999 ∷ replicate (min n 8) NumberOrNone
+
+-- the words of a line from a place on; past the line's end there are none
+abbrev pub words_from : List ℕ → ℕ → List (List ℕ)
+words_from line from = cond (nat_le from (length line)) (words (drop from line)) []
 
 -- The place of the first space of a line at or after `from`, or its length if there is none.
 abbrev pub word_stop : List ℕ → ℕ → ℕ

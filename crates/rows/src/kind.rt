@@ -5,7 +5,6 @@ ghost use Rattle.std.specs.List.{slice_get};
 ghost use Rattle.std.specs.Prelude.{◌≡◌, [], ◌∷◌, ◌++◌, min, length, replicate};
 
 use crate::cell::{Column, RowKind};
-use std::iter;
 
 const TICK: [Column; 1] = [Column::Within(1, 60_000)];
 
@@ -50,18 +49,32 @@ fn event_columns(events: u8) -> usize
     usize::from(events.min(8))
 }
 
-// The column at the place where these stand first, and after them one for each event.
+fn column_of(first: &[Column], place: usize) -> Option<Column>
+    ensures { result ≡ slice_get first.now place }
+{
+    first.get(place).copied()
+}
+
+// The column of an event, by the event's number.
+fn event_column(each: Column, events: u8, event: usize) -> Option<Column>
+    ensures { result ≡ slice_get (replicate (min events 8) each) event }
+{
+    (event < event_columns(events)).then_some(each)
+}
+
+// The column at the place where these stand first, and after them one for each event. It is asked for each word, so it walks over none of them.
 fn with_events(first: &[Column], each: Column, events: u8, place: usize) -> Option<Column>
     ensures { result ≡ slice_get (first.now ++ replicate (min events 8) each) place }
 {
-    first
-        .iter()
-        .copied()
-        .chain(iter::repeat_n(each, event_columns(events)))
-        .nth(place)
+    match place.checked_sub(first.len()) {
+        None => column_of(first, place),
+        Some(event) => event_column(each, events, event),
+    }
 }
 
 // The column at the place, from 0; none past the last.
+// It is asked for each word of a row, and the call alone would be a tenth of the time.
+#[inline(always)]
 pub fn column(kind: RowKind, place: usize) -> Option<Column>
     ensures { result ≡ slice_get (columns kind) place }
 {

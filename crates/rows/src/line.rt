@@ -1,12 +1,14 @@
 ghost use Rattle.rows.specs.Rows.{cells_of, columns, row_of, row_result, word_stop};
+ghost use Rattle.clocks.specs.Texts.{text};
 ghost use Rattle.texts.specs.Lines.{words};
-ghost use Rattle.std.specs.Prelude.{◌≡◌, ◌≤◌, min, length};
+ghost use Rattle.std.specs.Prelude.{◌≡◌, ◌≤◌, min, map, length, take};
 
 use crate::cell::{Cell, Row, RowKind, WordFault};
 use crate::content::number_in;
 use crate::kind::{column, column_count};
-use crate::word::read_cell;
+use crate::word::read_cell_for;
 use clocks::events::Events;
+use clocks::name::Name;
 use texts::lines::{Run, end_from};
 use texts::words::word_count;
 
@@ -34,7 +36,7 @@ fn read_words(
     let mut before = 0;
     for (place, word) in line.split(|b| *b == b' ').enumerate() {
         let column = column(kind, place).ok_or(WordFault::Misfit)?;
-        let cell = read_cell(column, events, before, word, number)?;
+        let cell = read_cell_for(column, events, before, word, number)?;
         cells[place] = cell;
         before = number_in(cell);
     }
@@ -42,7 +44,7 @@ fn read_words(
 }
 
 // The cells of a line. The number of its words comes before the words.
-pub fn read_row(
+pub fn read_row_for(
     kind: RowKind,
     events: &Events<'_>,
     line: &[u8],
@@ -55,4 +57,11 @@ pub fn read_row(
     } else {
         Err(WordFault::Misfit)
     }
+}
+
+// The same for any list of names. Names past the eighth name no event.
+pub fn read_row(kind: RowKind, names: &[Name], line: &[u8], number: u32) -> Result<Row, WordFault>
+    ensures { result ≡ row_result (row_of kind (take 8 (map text names.now)) line.now) }
+{
+    read_row_for(kind, &Events::first_eight(names), line, number)
 }

@@ -1,14 +1,16 @@
 ghost use Rattle.rows.specs.Pieces.{number_within, yes_or_no, event_named, limit_named, limit_from, limit_between, limit_of_parts, any_number, no_number, cell_from_token};
 ghost use Rattle.rows.specs.Rows.{cell_of};
 ghost use Rattle.rows.specs.declared.cell.WordFault.TheVariants.{Misfit};
+ghost use Rattle.clocks.specs.Texts.{text};
 ghost use Rattle.texts.specs.Numbers.{number};
 ghost use Rattle.texts.specs.Tokens.{piece};
 ghost use Rattle.std.specs.Option.{ok_or};
 ghost use Rattle.std.specs.Str.{bytes_eq};
-ghost use Rattle.std.specs.Prelude.{◌≡◌};
+ghost use Rattle.std.specs.Prelude.{◌≡◌, map, take};
 
 use crate::cell::{Cell, Column, WordFault};
 use clocks::events::Events;
+use clocks::name::Name;
 use meaning::values::Bound;
 use texts::numbers::value;
 use texts::tokens::{Token, token_of};
@@ -134,7 +136,7 @@ fn cell_from_token(column: Column, before: u64, token: Token) -> Result<Cell, Wo
 }
 
 // The cell that the word gives in the column; `before` is the number in the cell before it.
-pub fn read_cell(
+pub fn read_cell_for(
     column: Column,
     events: &Events<'_>,
     before: u64,
@@ -148,4 +150,17 @@ pub fn read_cell(
         Column::EventName => event_named(events, word),
         _ => cell_from_token(column, before, token_of(word, line)),
     }
+}
+
+// The same for any list of names. Names past the eighth name no event.
+pub fn read_cell(
+    column: Column,
+    names: &[Name],
+    before: u64,
+    word: &[u8],
+    line: u32,
+) -> Result<Cell, WordFault>
+    ensures { result ≡ cell_of column (take 8 (map text names.now)) before word.now }
+{
+    read_cell_for(column, &Events::first_eight(names), before, word, line)
 }

@@ -13,7 +13,7 @@ use formats::claim::{Claim, EntryStage};
 use formats::fault::{LineFault, SheetFault};
 use formats::line::TextLine;
 use judges::cursor::Lines;
-use judges::entry::entry_line;
+use judges::entry::entry_line_for;
 use tables::table::Table;
 
 // How many claims an entries text has for these events, as far as it has been read. There may be `room`.
@@ -37,7 +37,7 @@ impl<'a> LineReader for ClaimCounter<'a> {
     ghost Lacks = { ⊥ };
 
     fn line(&mut self, line: TextLine) -> Result<(), LineFault> {
-        if entry_line(self.stage, self.count, self.room, self.events, line)?.is_some() {
+        if entry_line_for(self.stage, self.count, self.room, self.events, line)?.is_some() {
             self.count += 1;
         }
         self.stage = EntryStage::Rows;
@@ -70,7 +70,7 @@ fn fill_claims(text: &[u8], events: &Events<'_>, claims: &mut [Claim])
     // How many claims there are so far, for which a line's judge asks; so the next one's place needs no other count.
     let mut count = 0;
     for line in Lines::new(text) {
-        match entry_line(stage, count, room, events, line) {
+        match entry_line_for(stage, count, room, events, line) {
             Ok(Some(claim)) => {
                 claims[count] = claim;
                 count += 1;

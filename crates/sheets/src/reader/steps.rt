@@ -16,7 +16,7 @@ use formats::fault::LineFault;
 use formats::line::{SheetLimits, SheetRows, TextLine};
 use formats::stage::Stage;
 use judges::heads::judge_edge_head;
-use judges::judging::judge_row;
+use judges::judging::judge_row_for;
 use meaning::values::{Bound, Edge, Place};
 use rows::cell::{Row, RowKind};
 use rows::content::{bound_in, event_in, flag_in, number_in};
@@ -42,7 +42,7 @@ fn bounds_in(row: Row) -> [Bound; 8]
 }
 
 impl TableReader {
-    // A row of a place, or the end of the places. This, a row of an edge and one of a distance have the call of `judge_row` alike:
+    // A row of a place, or the end of the places. This, a row of an edge and one of a distance have the call of `judge_row_for` alike:
     // each makes another value, and only places end by an empty line.
     fn place_row(&mut self, line: TextLine) -> Result<(), LineFault>
         ensures { Leads result (parts_of self.new) (step_at PlaceRows (parts_of self.old) (line_in line.entry)) }
@@ -52,7 +52,7 @@ impl TableReader {
             count: self.places.len(),
         };
         let kind = RowKind::Place(rows.count as u64);
-        match judge_row(line, rows, kind, &Events::first_eight(&[]))? {
+        match judge_row_for(line, rows, kind, &Events::first_eight(&[]))? {
             None => self.stage = Stage::EdgeHead,
             Some(row) => {
                 self.stage = Stage::PlaceRows;
@@ -87,7 +87,7 @@ impl TableReader {
         let events = Events::first_eight(self.names.as_slice());
         let kind = RowKind::Edge(most, events.count());
         self.stage = Stage::EdgeRows;
-        if let Some(row) = judge_row(line, rows, kind, &events)? {
+        if let Some(row) = judge_row_for(line, rows, kind, &events)? {
             // The numbers are within their columns, so that the casts lose nothing.
             let source = number_in(row.cells[0]) as u8;
             let target = number_in(row.cells[1]) as u8;

@@ -11,7 +11,7 @@ use crate::spans::DistanceReader;
 use formats::distance::{Distance, DistanceStage};
 use formats::fault::LineFault;
 use formats::line::{SheetLimits, SheetRows, TextLine};
-use judges::judging::judge_row;
+use judges::judging::judge_row_for;
 use rows::cell::RowKind;
 use rows::content::{event_in, number_in};
 
@@ -32,7 +32,7 @@ impl<'a> DistanceReader<'a> {
             limits: DISTANCES,
             count: self.lines.len(),
         };
-        if let Some(row) = judge_row(line, rows, RowKind::Distance, &self.events)? {
+        if let Some(row) = judge_row_for(line, rows, RowKind::Distance, &self.events)? {
             let on = event_in(row.cells[0]);
             let since = event_in(row.cells[1]);
             // Both are at most 250, so that the casts lose nothing.

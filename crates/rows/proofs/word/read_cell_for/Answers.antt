@@ -1,6 +1,6 @@
 use Rattle.std.proofs.Common.{◌∙◌}
 use Rattle.rows.proofs.Shaped.{cell-by-token}
-use Rattle.rows.proofs.word.read_cell.Goals as goal
+use Rattle.rows.proofs.word.read_cell_for.Goals as goal
 
 pub returns-in_default : goal.returns-in_default
 returns-in_default c =
