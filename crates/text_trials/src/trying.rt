@@ -6,7 +6,7 @@ use sheets::entries::read_entries_of;
 use sheets::list::DistanceList;
 use sheets::table::read_table;
 use std::alloc::{AllocError, Global};
-use std::{fmt, io};
+use std::fmt;
 use tables::table::Table;
 
 // Which reader takes the text. Distances and entries are read for the events open and steam, and entries into a list of this length.
@@ -159,7 +159,8 @@ fn try_text(heap: Global, kind: Kind, text: &[u8]) -> Result<Outcome, AllocError
     }
 }
 
-fn try_tried(rt: &(impl Print + AllocGlobal), trials: &Trials) -> io::Result<()> {
+// Want of memory ends a program by `AllocError` itself: an `io::Error` in between would tell it in other words.
+fn try_tried(rt: &(impl Print + AllocGlobal), trials: &Trials) -> anyhow::Result<()> {
     let heap = rt.alloc();
     let Trials {
         kind,
@@ -186,7 +187,7 @@ pub(crate) fn try_texts(
     rt: &(impl Print + AllocGlobal),
     all: &[Trials],
     long: &[LongTrial],
-) -> io::Result<()> {
+) -> anyhow::Result<()> {
     let heap = rt.alloc();
     for trials in all {
         try_tried(rt, trials)?;
@@ -209,10 +210,11 @@ fn is_stranger(heap: Global, byte: u8) -> bool {
 }
 
 // All bytes that a text may have.
-pub(crate) fn tell_bytes(rt: &(impl Print + AllocGlobal)) -> io::Result<()> {
+pub(crate) fn tell_bytes(rt: &(impl Print + AllocGlobal)) -> anyhow::Result<()> {
     let heap = rt.alloc();
     let known: Vec<u8> = (0..=255)
         .filter(|byte| !is_stranger(heap, *byte))
         .collect(heap)?;
-    println!(rt; "bytes of a text: `{}`", known.as_slice().escape_ascii())
+    println!(rt; "bytes of a text: `{}`", known.as_slice().escape_ascii())?;
+    Ok(())
 }

@@ -292,7 +292,8 @@ fn tell<T: Drop>(rt: &impl Print, what: &str, made: Option<T>) -> io::Result<()>
     println!(rt; "{what}: {came}")
 }
 
-pub(crate) fn try_parts(rt: &(impl Print + AllocGlobal)) -> io::Result<()> {
+// Want of memory ends the program by `AllocError` itself: an `io::Error` in between would tell it in other words.
+pub(crate) fn try_parts(rt: &(impl Print + AllocGlobal)) -> anyhow::Result<()> {
     for trial in NAMES {
         tell(rt, trial.what, Name::new(trial.letters))?;
     }
